@@ -1,0 +1,99 @@
+-- The book of one day. A table is a list whose length is its count of entries.
+-- Assumes nothing.
+use Prim.Native.Nat.{ℕ, _+_, _-_, _*_}
+use mathlib.Core.Bool.{Bool, false, cond}
+use mathlib.Core.List.{List, []}
+use lib.Dec.{ltb, eqb}
+use lib.ListN.{getD, replicate}
+use Rattle.rules.specs.Basics.{noMw, bit}
+
+-- out operator, in operator, model 1 or 4
+pub record Direction : Type 0 where
+  pub out : ℕ
+  pub into : ℕ
+  pub model : ℕ
+
+-- code, and access map: bit o for operator o
+pub record Party : Type 0 where
+  pub code : List ℕ
+  pub access : ℕ
+
+pub record Right : Type 0 where
+  pub holder : ℕ
+  pub direction : ℕ
+  pub session : ℕ
+  pub mw : List ℕ
+
+-- the nominations of an out party and an in party under a right; a side never sent has no MW
+pub record Pair : Type 0 where
+  pub right : ℕ
+  pub out : ℕ
+  pub into : ℕ
+  pub outMw : List ℕ
+  pub intoMw : List ℕ
+
+-- `started`: a timed call was granted; `clock` is the time of the latest. A profile is its map: bit d for direction d.
+-- `offered` and `granted` hold the MW of limit l in hour h at `place l h`: limits 0 to 23 are the directions, 24 to 31 the profiles.
+-- `matched` holds 1 at `flag d s` where session s of direction d was matched, else 0.
+pub record Book : Type 0 where
+  pub hours : ℕ
+  pub weekday : ℕ
+  pub started : Bool
+  pub clock : ℕ
+  pub directions : List Direction
+  pub profiles : List ℕ
+  pub parties : List Party
+  pub offered : List ℕ
+  pub granted : List ℕ
+  pub rights : List Right
+  pub pairs : List Pair
+  pub matched : List ℕ
+
+abbrev pub place : ℕ → ℕ → ℕ
+place limit hour = limit * 25 + (hour - 1)
+
+abbrev pub flag : ℕ → ℕ → ℕ
+flag direction session = direction * 25 + (session - 1)
+
+-- the limit that profile p is
+abbrev pub ofProfile : ℕ → ℕ
+ofProfile p = 24 + p
+
+-- the limit holds direction d: it is that direction, or a profile with its bit
+unfoldable pub holds : List ℕ → ℕ → ℕ → Bool
+holds maps d limit = cond (ltb limit 24) (eqb limit d) (bit (getD maps (limit - 24) 0) d)
+
+-- the book of a day, as opened
+unfoldable pub opened : ℕ → ℕ → Book
+opened n day =
+    record {
+      hours = n;
+      weekday = day;
+      started = false;
+      clock = 0;
+      directions = [];
+      profiles = [];
+      parties = [];
+      offered = replicate 800 0;
+      granted = replicate 800 0;
+      rights = [];
+      pairs = [];
+      matched = replicate 600 0;
+    }
+
+-- entries by number, and what stands for one that is not there
+abbrev pub direction : List Direction → ℕ → Direction
+direction ds d = getD ds d (record { out = 0; into = 0; model = 0 })
+
+abbrev pub party : List Party → ℕ → Party
+party ps p = getD ps p (record { code = []; access = 0 })
+
+abbrev pub right : List Right → ℕ → Right
+right rs r = getD rs r (record { holder = 0; direction = 0; session = 0; mw = noMw })
+
+-- capacity left: the offer less the granted MW
+abbrev pub leftAt : Book → ℕ → ℕ → ℕ
+leftAt b limit hour = getD (b .offered) (place limit hour) 0 - getD (b .granted) (place limit hour) 0
+
+abbrev pub modelOf : Book → ℕ → ℕ
+modelOf b d = direction (b .directions) d .model

@@ -1,0 +1,82 @@
+-- Demand 3 as one claim about a list of calls on the book that an opening returned.
+-- Left of each equation stands what the reads answer after the list, right of it what the day, the calls and their replies give.
+-- Assumes nothing.
+use Prim.Native.Nat.{ℕ, _+_, _-_, _≤_, _<_}
+use mathlib.Core.Path.{_≡_}
+use mathlib.Core.Bool.{cond}
+use mathlib.Core.List.{List, [], _∷_}
+use lib.Dec.{eqb, leb}
+use lib.ListN.{length, getD}
+use Rattle.rules.specs.Basics.{noMw}
+use Rattle.rules.specs.Book.{Direction, Right, Book, ofProfile, right}
+use Rattle.rules.specs.Calls.{Call}
+use Rattle.rules.specs.Run.{run}
+use Rattle.rules.specs.Opening.{opening, dayHours}
+use Rattle.rules.specs.Reads.{LeftReply, RightReply, readDirection, readProfile, readRight, readConfirmed}
+use Rattle.rules.specs.History.{Key, grantedCalls, grants, directionsOf, profilesOf, lastOffer, bidSum, rightsFrom, rightSum, pairsFrom, lastSide, confirmedBy}
+
+-- a read of what is left: last granted offer less granted MW, which never exceed it
+pub record IsLeft (read : LeftReply) (offer granted : ℕ) : Type 0 where
+  pub fits : granted ≤ offer
+  pub read-is : read ≡ record { number = 0; left = offer - granted }
+
+-- right number r of these, 6 and zeros where there is none
+abbrev pub rightReply : List Right → ℕ → RightReply
+rightReply rs r = record { number = cond (leb (length rs) r) 6 0; right = right rs r }
+
+-- what the reads answer in hour k of the session: the confirmed MW of a pair, and of all these pairs under right r together
+abbrev pub confirmedIn : Book → ℕ → ℕ → ℕ → ℕ → ℕ
+confirmedIn b k r o i = getD (readConfirmed b r o i .mw) k 0
+
+unfoldable pub confirmedTotal : Book → ℕ → ℕ → List Key → ℕ
+confirmedTotal b k r [] = 0
+confirmedTotal b k r (x ∷ xs) = cond (eqb (x .right) r) (confirmedIn b k (x .right) (x .out) (x .into)) 0 + confirmedTotal b k r xs
+
+-- the limits of the tables
+pub record WithinLimits (b : Book) : Type 0 where
+  pub directions : length (b .directions) ≤ 24
+  pub profiles : length (b .profiles) ≤ 8
+  pub parties : length (b .parties) ≤ 64
+  pub rights : length (b .rights) ≤ 512
+  pub pairs : length (b .pairs) ≤ 512
+
+-- over the first book b and its count of hours n
+module _ (b : Book) (n : ℕ) (cs : List Call) where
+  -- the calls that were granted
+  abbrev pub granted : List Call
+  granted = grantedCalls cs (run b cs .replies)
+
+  abbrev pub directions : List Direction
+  directions = directionsOf granted
+
+  abbrev pub profiles : List ℕ
+  profiles = profilesOf granted
+
+  abbrev pub rights : List Right
+  rights = rightsFrom directions [] granted
+
+  -- the MW of the granted bids
+  abbrev pub mwOf : ℕ → ℕ → ℕ
+  mwOf limit hour = bidSum n directions profiles limit hour granted
+
+  pub record Holds : Type 0 where
+    -- capacity left, at each hour of the day
+    pub left-of-direction : (d hour : ℕ) → d < length directions → 1 ≤ hour → hour ≤ n
+        → IsLeft (readDirection (run b cs .book) d hour) (lastOffer d hour 0 granted) (mwOf d hour)
+    pub left-of-profile : (p hour : ℕ) → p < length profiles → 1 ≤ hour → hour ≤ n
+        → IsLeft (readProfile (run b cs .book) p hour) (lastOffer (ofProfile p) hour 0 granted) (mwOf (ofProfile p) hour)
+    -- the rights, and their sums; the MW on the right-hand side are plain sums
+    pub the-rights : (r : ℕ) → readRight (run b cs .book) r ≡ rightReply rights r
+    pub the-sums : (d hour : ℕ) → d < length directions → rightSum n directions d hour rights ≡ mwOf d hour
+    -- confirmed MW are those of the matching, under a right together at most the right, and of a pair at most either side
+    pub the-confirmed : (r o i : ℕ) → readConfirmed (run b cs .book) r o i ≡ confirmedBy rights granted r o i
+    pub within-right : (r k : ℕ) → confirmedTotal (run b cs .book) k r (pairsFrom [] granted) ≤ getD (right rights r .mw) k 0
+    pub within-out : (r o i k : ℕ) → confirmedIn (run b cs .book) k r o i ≤ getD (lastSide r o i 0 noMw granted) k 0
+    pub within-into : (r o i k : ℕ) → confirmedIn (run b cs .book) k r o i ≤ getD (lastSide r o i 1 noMw granted) k 0
+    -- without the refused calls: the same replies to the others, and the same book
+    pub without-refused : run b granted ≡ record { replies = grants (run b cs .replies); book = run b cs .book }
+    pub limits : WithinLimits (run b cs .book)
+
+-- the book that the opening returned, granted or refused
+abbrev pub Demand3 : ℕ → ℕ → List Call → Type 0
+Demand3 n day cs = Holds (opening n day .book) (dayHours n day) cs
