@@ -22,6 +22,11 @@ use Rattle.rules.specs.Nominations.{outOf, intoOf, pairTaken}
 unfoldable pub order : List ℕ
 order = 1 ∷ 2 ∷ 3 ∷ 4 ∷ 5 ∷ 6 ∷ 7 ∷ 8 ∷ 9 ∷ 10 ∷ 11 ∷ 12 ∷ 13 ∷ 14 ∷ 15 ∷ []
 
+-- the numbers before n
+unfoldable pub before : ℕ → List ℕ → List ℕ
+before n [] = []
+before n (m ∷ ms) = cond (eqb m n) [] (m ∷ before n ms)
+
 -- the first of the numbers whose condition holds, or 0
 unfoldable pub firstOf : (ℕ → Bool) → List ℕ → ℕ
 firstOf f [] = 0

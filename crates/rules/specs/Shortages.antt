@@ -6,7 +6,13 @@ use mathlib.Core.Bool.{true}
 use mathlib.Core.List.{List, [], _∷_}
 use lib.ListN.{getD}
 use Rattle.rules.specs.Basics.{bit}
-use Rattle.rules.specs.Book.{Book, holds, leftAt, ofProfile}
+use Rattle.rules.specs.Sessions.{firstHour}
+use Rattle.rules.specs.Book.{Book, holds, leftAt, ofProfile, modelOf}
+use Rattle.rules.specs.Calls.{Call, Bid, Reply}
+use Rattle.rules.specs.Refusals.{order, before, refuses}
+use Rattle.rules.specs.Run.{applied}
+use Rattle.rules.specs.Demand1.{None}
+use Rattle.rules.specs.Demand3.{WithinLimits}
 
 -- hour number k of a bid on direction d, whose MW are for hours from `first` on, asks more than is left of a limit that holds the direction
 pub record ShortHour (b : Book) (d first : ℕ) (mws : List ℕ) : Type 0 where
@@ -32,3 +38,23 @@ pub record NamesFirst (b : Book) (d first : ℕ) (mws : List ℕ) (hour limit : 
   pub hour-is : hour ≡ first + k
   pub earlier : (j : ℕ) → j < k → HourFits b d first mws j
   pub named : NamesLimit b d hour (getD mws k 0) limit
+
+-- short hours exist exactly when 15 is the reply to a bid that nothing before 15 in the order refuses; the reply names the first
+module _ (b : Book) (time p d session : ℕ) (mw : List ℕ) where
+  abbrev pub bid : Call
+  bid = Bid time p d session mw
+
+  abbrev pub reply : Reply
+  reply = applied b bid .reply
+
+  abbrev pub first : ℕ
+  first = firstHour (b .hours) (modelOf b d) session
+
+  pub record ShortExactly : Type 0 where
+    pub when-short : None (refuses b bid) (before 15 order) → ShortHour b d first mw → reply .number ≡ 15
+    pub only-then : reply .number ≡ 15 → ShortHour b d first mw
+    pub names-first : reply .number ≡ 15 → NamesFirst b d first mw (reply .first) (reply .second)
+
+-- in every book within the limits
+abbrev pub ShortRule : Type 0
+ShortRule = (b : Book) → WithinLimits b → (time p d session : ℕ) (mw : List ℕ) → ShortExactly b time p d session mw

@@ -1,0 +1,186 @@
+-- Demand 3, capacity: at each hour, for each direction and profile, left + the MW of the granted bids is the last granted offer.
+-- Assumes nothing.
+use Prim.Native.Nat.{ℕ, _+_, _-_, _≤_, _<_}
+use mathlib.Core.Path.{_≡_, refl, sym, _∙_}
+use mathlib.Core.List.{List, [], _∷_, _++_, append-assoc, append-nil}
+use native.Mathlib.Nat.{add-zero, zero-add, add-assoc}
+use native.Mathlib.Omega.{arith}
+use lib.ListN.{getD, getD-replicate}
+use Rattle.rules.specs.Basics.{has}
+use Rattle.rules.specs.Sessions.{firstHour}
+use Rattle.rules.specs.Book.{Direction, Book, direction, leftAt, place, ofProfile, opened}
+use Rattle.rules.specs.Calls.{Call, AddDirection, AddProfile, AddParty, OfferDirection, OfferProfile, Bid, Nominate, Match}
+use Rattle.rules.specs.Bids.{share}
+use Rattle.rules.specs.Refusals.{order, refuses, unknown}
+use Rattle.rules.specs.Effects.{directionsAfter, profilesAfter, offeredAfter, grantedAfter, effect}
+use Rattle.rules.specs.Run.{run}
+use Rattle.rules.specs.History.{directionsOf, profilesOf, offerAfter, lastOffer, bidMw, bidSum}
+use Rattle.rules.proofs.Decisions.{Granted, fails}
+use Rattle.rules.proofs.Places.{place-limit, place-hour, stored}
+use Rattle.rules.proofs.Histories.{after, AllGranted, history, run-follows}
+use Rattle.rules.proofs.Books.{Kept, bid-kept, Sound, direction-there, profile-there, getD-withBid, sound-step, sound-after, sound-opened}
+
+-- ---- one limit in one hour
+
+module _ (limit hour : ℕ) (l : limit < 32) (p : 1 ≤ hour) (q : hour ≤ 25) where
+  offered-step : (b : Book) (c : Call) → Granted b c → Sound b
+      → getD (offeredAfter (b .offered) c) (place limit hour) 0 ≡ offerAfter limit hour (getD (b .offered) (place limit hour) 0) c
+  unfolding order has refuses unknown offeredAfter offerAfter
+  offered-step b (AddDirection o i m) g s = refl
+  offered-step b (AddProfile map) g s = refl
+  offered-step b (AddParty code access) g s = refl
+  offered-step b (OfferDirection time d h mw) g s =
+      let t = direction-there b s d h (fails g 6 tt) in
+      stored 32 (b .offered) (s .1 .offered) limit hour d h mw l p q (t .limits) (t .from) (t .to)
+  offered-step b (OfferProfile time k h mw) g s =
+      let t = profile-there b s k h (fails g 6 tt) in
+      stored 32 (b .offered) (s .1 .offered) limit hour (ofProfile k) h mw l p q (t .limits) (t .from) (t .to)
+  offered-step b (Bid time k d session mw) g s = refl
+  offered-step b (Nominate time sender other r side mw) g s = refl
+  offered-step b (Match time d session) g s = refl
+
+  granted-step : (b : Book) (c : Call) → Sound b
+      → getD (grantedAfter (b .hours) (b .directions) (b .profiles) (b .granted) c) (place limit hour) 0
+      ≡ getD (b .granted) (place limit hour) 0 + bidMw (b .hours) (b .directions) (b .profiles) limit hour c
+  unfolding grantedAfter bidMw share
+  granted-step b (AddDirection o i m) s = sym (add-zero _)
+  granted-step b (AddProfile map) s = sym (add-zero _)
+  granted-step b (AddParty code access) s = sym (add-zero _)
+  granted-step b (OfferDirection time d h mw) s = sym (add-zero _)
+  granted-step b (OfferProfile time k h mw) s = sym (add-zero _)
+  granted-step b (Bid time k d session mw) s =
+      let first : ℕ = firstHour (b .hours) (direction (b .directions) d .model) session in
+      rw (
+        getD-withBid (b .profiles) d first mw (b .granted) (place limit hour) (omega (arith, s .1 .granted)),
+        place-limit limit hour,
+        place-hour limit hour,
+      )
+  granted-step b (Nominate time sender other r side mw) s = sym (add-zero _)
+  granted-step b (Match time d session) s = sym (add-zero _)
+
+  -- the directions and profiles at the end are those that the bid met
+  final-mw : (b : Book) (c : Call) (cs : List Call) → AllGranted (effect b c) cs
+      → bidMw (b .hours) (after (effect b c) cs .directions) (after (effect b c) cs .profiles) limit hour c
+      ≡ bidMw (b .hours) (b .directions) (b .profiles) limit hour c
+  unfolding bidMw
+  final-mw b (AddDirection o i m) cs g = refl
+  final-mw b (AddProfile map) cs g = refl
+  final-mw b (AddParty code access) cs g = refl
+  final-mw b (OfferDirection time d h mw) cs g = refl
+  final-mw b (OfferProfile time k h mw) cs g = refl
+  final-mw b (Bid time k d session mw) cs g =
+      let e : Kept b (after (effect b (Bid time k d session mw)) cs) = bid-kept b time k d session mw cs g in
+      rw (e .directions, e .profiles)
+  final-mw b (Nominate time sender other r side mw) cs g = refl
+  final-mw b (Match time d session) cs g = refl
+
+  granted-after : (b : Book) (cs : List Call) → AllGranted b cs → Sound b
+      → getD (after b cs .granted) (place limit hour) 0
+      ≡ getD (b .granted) (place limit hour) 0 + bidSum (b .hours) (after b cs .directions) (after b cs .profiles) limit hour cs
+  unfolding bidSum effect
+  granted-after b [] g s = sym (add-zero _)
+  granted-after b (c ∷ cs) g s =
+      rw (granted-after (effect b c) cs (g .1) (sound-step b c (g .0) s), granted-step b c s, final-mw b c cs (g .1)) (add-assoc _ _ _)
+
+  offered-after : (b : Book) (cs : List Call) → AllGranted b cs → Sound b
+      → getD (after b cs .offered) (place limit hour) 0 ≡ lastOffer limit hour (getD (b .offered) (place limit hour) 0) cs
+  unfolding lastOffer effect
+  offered-after b [] g s = refl
+  offered-after b (c ∷ cs) g s =
+      rw (← offered-step b c (g .0) s) (offered-after (effect b c) cs (g .1) (sound-step b c (g .0) s))
+
+-- ---- set-up
+
+-- a set-up call adds its entry behind those before it
+directions-more : (ds : List Direction) (c : Call) (cs : List Call) → directionsAfter ds c ++ directionsOf cs ≡ ds ++ directionsOf (c ∷ cs)
+unfolding directionsAfter directionsOf
+directions-more ds (AddDirection o i m) cs = append-assoc ds _ _
+directions-more ds (AddProfile map) cs = refl
+directions-more ds (AddParty code access) cs = refl
+directions-more ds (OfferDirection time d h mw) cs = refl
+directions-more ds (OfferProfile time k h mw) cs = refl
+directions-more ds (Bid time k d session mw) cs = refl
+directions-more ds (Nominate time sender other r side mw) cs = refl
+directions-more ds (Match time d session) cs = refl
+
+pub directions-after : (b : Book) (cs : List Call) → after b cs .directions ≡ b .directions ++ directionsOf cs
+unfolding effect
+directions-after b [] = unfold directionsOf in sym (append-nil (b .directions))
+directions-after b (c ∷ cs) = directions-after (effect b c) cs ∙ directions-more (b .directions) c cs
+
+profiles-more : (maps : List ℕ) (c : Call) (cs : List Call) → profilesAfter maps c ++ profilesOf cs ≡ maps ++ profilesOf (c ∷ cs)
+unfolding profilesAfter profilesOf
+profiles-more maps (AddDirection o i m) cs = refl
+profiles-more maps (AddProfile map) cs = append-assoc maps _ _
+profiles-more maps (AddParty code access) cs = refl
+profiles-more maps (OfferDirection time d h mw) cs = refl
+profiles-more maps (OfferProfile time k h mw) cs = refl
+profiles-more maps (Bid time k d session mw) cs = refl
+profiles-more maps (Nominate time sender other r side mw) cs = refl
+profiles-more maps (Match time d session) cs = refl
+
+profiles-after : (b : Book) (cs : List Call) → after b cs .profiles ≡ b .profiles ++ profilesOf cs
+unfolding effect
+profiles-after b [] = unfold profilesOf in sym (append-nil (b .profiles))
+profiles-after b (c ∷ cs) = profiles-after (effect b c) cs ∙ profiles-more (b .profiles) c cs
+
+-- ---- the demand
+
+module _ (n day : ℕ) (f : 23 ≤ n) (h : n ≤ 25) (limit hour : ℕ) (l : limit < 32) (p : 1 ≤ hour) (q : hour ≤ 25) where
+  granted-total : (gs : List Call) → AllGranted (opened n day) gs
+      → getD (after (opened n day) gs .granted) (place limit hour) 0 ≡ bidSum n (directionsOf gs) (profilesOf gs) limit hour gs
+  unfolding opened
+  granted-total gs g =
+      granted-after limit hour l p q (opened n day) gs g (sound-opened n day f h)
+      ∙ rw (getD-replicate {A = ℕ} 800 (place limit hour) 0 0 (omega arith), directions-after (opened n day) gs, profiles-after (opened n day) gs) (zero-add _)
+
+  offered-last : (gs : List Call) → AllGranted (opened n day) gs
+      → getD (after (opened n day) gs .offered) (place limit hour) 0 ≡ lastOffer limit hour 0 gs
+  unfolding opened
+  offered-last gs g =
+      offered-after limit hour l p q (opened n day) gs g (sound-opened n day f h) ∙ rw (getD-replicate {A = ℕ} 800 (place limit hour) 0 0 (omega arith))
+
+-- at each hour, for each direction and each profile: granted MW are within the last granted offer, and left is the rest
+pub record Rest (left offer granted : ℕ) : Type 0 where
+  pub fits : granted ≤ offer
+  pub left-is : left ≡ offer - granted
+  pub adds-up : left + granted ≡ offer
+
+rest : (o g offer granted : ℕ) → g ≡ granted → o ≡ offer → g ≤ o → Rest (o - g) offer granted
+rest o g offer granted p q h = record { fits = omega arith; left-is = omega arith; adds-up = omega arith }
+
+pub capacity : (n day : ℕ) → 23 ≤ n → n ≤ 25 → (cs : List Call) (limit hour : ℕ) → limit < 32 → 1 ≤ hour → hour ≤ 25
+    → let gs : List Call = history (opened n day) cs in
+    Rest (leftAt (run (opened n day) cs .book) limit hour) (lastOffer limit hour 0 gs) (bidSum n (directionsOf gs) (profilesOf gs) limit hour gs)
+capacity n day f h cs limit hour l p q =
+    let b : Book = opened n day in
+    let gs : List Call = history b cs in
+    let w = run-follows b cs in
+    let s = sound-after b gs (w .granted) (sound-opened n day f h) in
+    rw (w .book)
+    (rest _ _ _ _ (granted-total n day f h limit hour l p q gs (w .granted)) (offered-last n day f h limit hour l p q gs (w .granted)) (s .1 .within (place limit hour)))
+
+-- ---- what a run leaves of the day and of set-up
+
+hours-after : (b : Book) (cs : List Call) → after b cs .hours ≡ b .hours
+unfolding effect
+hours-after b [] = refl
+hours-after b (c ∷ cs) = hours-after (effect b c) cs
+
+module _ (n day : ℕ) (cs : List Call) where
+  pub hours-run : run (opened n day) cs .book .hours ≡ n
+  unfolding opened
+  hours-run = rw (run-follows (opened n day) cs .book) (hours-after (opened n day) (history (opened n day) cs))
+
+  pub directions-run : run (opened n day) cs .book .directions ≡ directionsOf (history (opened n day) cs)
+  unfolding opened
+  directions-run = rw (run-follows (opened n day) cs .book) (directions-after (opened n day) (history (opened n day) cs))
+
+  pub profiles-run : run (opened n day) cs .book .profiles ≡ profilesOf (history (opened n day) cs)
+  unfolding opened
+  profiles-run = rw (run-follows (opened n day) cs .book) (profiles-after (opened n day) (history (opened n day) cs))
+
+  pub sound-run : 23 ≤ n → n ≤ 25 → Sound (run (opened n day) cs .book)
+  sound-run f h =
+      rw (run-follows (opened n day) cs .book)
+      (sound-after (opened n day) (history (opened n day) cs) (run-follows (opened n day) cs .granted) (sound-opened n day f h))

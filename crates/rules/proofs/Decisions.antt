@@ -1,0 +1,128 @@
+-- Demand 1, and what a grant says of each condition.
+-- Assumes nothing.
+use Prim.Native.Nat.{ℕ}
+use mathlib.Core.Path.{_≡_, refl, sym, ap, subst}
+use mathlib.Core.Bool.{Bool, true, false, cond, _||_, _&&_, not, true≢false}
+use mathlib.Core.List.{List, [], _∷_, _++_}
+use lib.Dec.{T, eqb}
+use borrow.Author.Tests.{eqb-true, eqb-false, eq-eqb}
+use Rattle.rules.specs.Basics.{has}
+use Rattle.rules.specs.Book.{Book}
+use Rattle.rules.specs.Calls.{Call, isGrant}
+use Rattle.rules.specs.Refusals.{order, before, firstOf, refuses, number}
+use Rattle.rules.specs.Details.{refusal}
+use Rattle.rules.specs.Run.{Step, applied}
+use Rattle.rules.specs.Opening.{openingRefuses, opening}
+use Rattle.rules.specs.Reads.{directionReadRefuses, readDirection, profileReadRefuses, readProfile, rightReadRefuses, readRight, confirmedReadRefuses, readConfirmed}
+use Rattle.rules.specs.Records.{writerRefuses, Written, writing, readerRefuses, reading}
+use Rattle.rules.specs.Demand1.{None, Decided, granting, refusing, Demand1}
+use Rattle.rules.specs.declared.CallRecord.{CallRecord}
+
+later : {f : ℕ → Bool} {ns : List ℕ} {k : ℕ} (n : ℕ) → f n ≡ false → Decided f ns k → Decided f (n ∷ ns) k
+later n e (granting h) = granting (e, h)
+later n e (refusing before m rest p q r) = refusing (n ∷ before) m rest (ap (λ (l : List ℕ). n ∷ l) p) (e, q) r
+
+-- the first number whose condition holds is the lowest that applies
+pub first-of : (f : ℕ → Bool) (ns : List ℕ) → Decided f ns (firstOf f ns)
+unfolding firstOf
+first-of f [] = granting tt
+first-of f (n ∷ ns) = go (f n) refl (first-of f ns)
+  where
+    go : (t : Bool) → f n ≡ t → Decided f ns (firstOf f ns) → Decided f (n ∷ ns) (firstOf f (n ∷ ns))
+    go true e d = rw e (refusing [] n ns refl tt e)
+    go false e d = rw e (later n e d)
+
+-- what is not 0 is a number whose condition holds
+pub refused-so : {f : ℕ → Bool} {ns : List ℕ} {n : ℕ} → Decided f ns n → (n ≡ 0 → ⊥) → f n ≡ true
+refused-so (granting h) z = absurd (z refl)
+refused-so (refusing before n later p q r) z = r
+
+-- and those before it don't
+pub passed : (f : ℕ → Bool) (ns : List ℕ) (n : ℕ) → firstOf f ns ≡ n → None f (before n ns)
+unfolding firstOf before
+passed f [] n e = tt
+passed f (m ∷ ms) n e = go (f m) refl (eqb m n) refl (λ k. passed f ms n k)
+  where
+    go : (x : Bool) → f m ≡ x → (y : Bool) → eqb m n ≡ y → (firstOf f ms ≡ n → None f (before n ms)) → None f (before n (m ∷ ms))
+    go x p true q rest = rw q tt
+    go true p false q rest = absurd (eqb-false m n q (rw p at e))
+    go false p false q rest = rw q (p, rest (rw p at e))
+
+-- numbers whose conditions fail may be left out in front
+pub none-before : (f : ℕ → Bool) (ms ns : List ℕ) → None f ms → firstOf f (ms ++ ns) ≡ firstOf f ns
+unfolding firstOf
+none-before f [] ns h = refl
+none-before f (m ∷ ms) ns h = rw (h .0) (none-before f ms ns (h .1))
+
+pub applied-number : (b : Book) (c : Call) → applied b c .reply .number ≡ number b c
+unfolding applied refusal
+applied-number b c = go (eqb (number b c) 0) refl
+  where
+    go : (t : Bool) → eqb (number b c) 0 ≡ t → applied b c .reply .number ≡ number b c
+    go true e = rw (e, applied) (sym (eqb-true (number b c) 0 e))
+    go false e = rw (e, applied)
+
+applied-kept : (b : Book) (c : Call) → isGrant (applied b c .reply) ≡ false → applied b c .book ≡ b
+unfolding applied refusal
+applied-kept b c h = go (eqb (number b c) 0) refl
+  where
+    go : (t : Bool) → eqb (number b c) 0 ≡ t → applied b c .book ≡ b
+    go true e = absurd (true≢false (rw (e, applied) at h))
+    go false e = rw (e, applied)
+
+writing-kept : (c : CallRecord) (buffer : List ℕ) → isGrant (writing c buffer .reply) ≡ false → writing c buffer .buffer ≡ buffer
+unfolding writing
+writing-kept c buffer h = rw h
+
+pub demand1 : Demand1
+unfolding opening readDirection readProfile readRight readConfirmed reading writing
+demand1 =
+    record {
+      calls = λ b c. rw (applied-number b c) (first-of (refuses b c) order);
+      calls-kept = applied-kept;
+      openings = λ n day. first-of (openingRefuses n day) order;
+      left-of-directions = λ b d hour. first-of (directionReadRefuses b d hour) order;
+      left-of-profiles = λ b p hour. first-of (profileReadRefuses b p hour) order;
+      rights = λ b r. first-of (rightReadRefuses b r) order;
+      confirmed = λ b r o i. first-of (confirmedReadRefuses b r o i) order;
+      readers = λ s. first-of (readerRefuses s) order;
+      writers = λ c buffer. first-of (writerRefuses c buffer) order;
+      writers-kept = writing-kept;
+    }
+
+-- ---- what a grant says of each condition
+
+pub record Granted (b : Book) (c : Call) : Type 0 where
+  pub none : None (refuses b c) order
+
+-- one of the numbers; where the list unfolds, `tt` shows that n is in it
+pub at : (f : ℕ → Bool) (n : ℕ) (ns : List ℕ) → None f ns → T (has n ns) → f n ≡ false
+unfolding has
+at f n [] h t = absurd t
+at f n (m ∷ ms) h t = go (eqb m n) refl t (λ s. at f n ms (h .1) s)
+  where
+    go : (x : Bool) → eqb m n ≡ x → T (x || has n ms) → (T (has n ms) → f n ≡ false) → f n ≡ false
+    go true e s rest = subst (λ (k : ℕ). f k ≡ false) (eqb-true m n e) (h .0)
+    go false e s rest = rest s
+
+-- the condition n fails where the call is granted; where `order` and `has` unfold, `tt` shows that n is in it
+pub fails : {b : Book} {c : Call} → Granted b c → (n : ℕ) → T (has n order) → refuses b c n ≡ false
+fails {b} {c} g n t = at (refuses b c) n order (g .none) t
+
+abbrev positive : List ℕ → Bool
+positive [] = true
+positive (n ∷ ns) = not (eqb n 0) && positive ns
+
+clear : (f : ℕ → Bool) (ns : List ℕ) → T (positive ns) → firstOf f ns ≡ 0 → None f ns
+unfolding firstOf
+clear f [] t e = tt
+clear f (n ∷ ns) t e = go (f n) refl (eqb n 0) refl (λ s k. clear f ns s k)
+  where
+    go : (x : Bool) → f n ≡ x → (z : Bool) → eqb n 0 ≡ z → (T (positive ns) → firstOf f ns ≡ 0 → None f ns) → (f n ≡ false) × None f ns
+    go x p true q rest = absurd (rw q at t)
+    go true p false q rest = absurd (eqb-false n 0 q (rw p at e))
+    go false p false q rest = (p, rest (rw q at t) (rw p at e))
+
+pub is-granted : (b : Book) (c : Call) → eqb (number b c) 0 ≡ true → Granted b c
+unfolding order
+is-granted b c e = record { none = clear (refuses b c) order tt (eqb-true (number b c) 0 e) }

@@ -1,0 +1,14 @@
+pub mod Bools
+pub mod Decisions
+pub mod Histories
+pub mod Places
+pub mod Shortages
+pub mod Books
+pub mod Capacity
+pub mod Sessions
+pub mod RightsFit
+pub mod Rights
+pub mod Pairs
+pub mod Matched
+pub mod Matching
+pub mod Demand
