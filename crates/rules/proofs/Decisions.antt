@@ -2,19 +2,19 @@
 -- Assumes nothing.
 use Prim.Native.Nat.{ℕ}
 use mathlib.Core.Path.{_≡_, refl, sym, ap, subst}
-use mathlib.Core.Bool.{Bool, true, false, cond, _||_, _&&_, not, true≢false}
+use mathlib.Core.Bool.{Bool, true, false, _||_, _&&_, not, true≢false}
 use mathlib.Core.List.{List, [], _∷_, _++_}
 use lib.Dec.{T, eqb}
-use borrow.Author.Tests.{eqb-true, eqb-false, eq-eqb}
+use borrow.Author.Tests.{eqb-true, eqb-false}
 use Rattle.rules.specs.Basics.{has}
 use Rattle.rules.specs.Book.{Book}
 use Rattle.rules.specs.Calls.{Call, isGrant}
 use Rattle.rules.specs.Refusals.{order, before, firstOf, refuses, number}
 use Rattle.rules.specs.Details.{refusal}
-use Rattle.rules.specs.Run.{Step, applied}
+use Rattle.rules.specs.Run.{applied}
 use Rattle.rules.specs.Opening.{openingRefuses, opening}
 use Rattle.rules.specs.Reads.{directionReadRefuses, readDirection, profileReadRefuses, readProfile, rightReadRefuses, readRight, confirmedReadRefuses, readConfirmed}
-use Rattle.rules.specs.Records.{writerRefuses, Written, writing, readerRefuses, reading}
+use Rattle.rules.specs.Records.{writerRefuses, writing, readerRefuses, reading}
 use Rattle.rules.specs.Demand1.{None, Decided, granting, refusing, Demand1}
 use Rattle.rules.specs.declared.CallRecord.{CallRecord}
 

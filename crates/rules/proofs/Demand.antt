@@ -2,17 +2,17 @@
 -- Assumes nothing.
 use Prim.Native.Nat.{ℕ, _≤_, _<_}
 use mathlib.Core.Path.{_≡_, refl, ap, _∙_}
-use mathlib.Core.Bool.{Bool, true, false, cond, _||_}
+use mathlib.Core.Bool.{Bool, true, false, _||_}
 use mathlib.Core.List.{List}
 use native.Mathlib.Nat.{le-trans}
 use native.Mathlib.Omega.{arith}
-use lib.Dec.{leb, ltb, lit≤}
+use lib.Dec.{ltb, lit≤}
 use lib.ListN.{length}
 use borrow.Author.Tests.{ltb-false, lt-leb, le-ltb}
-use Rattle.rules.specs.Book.{Book, leftAt, ofProfile, right, opened}
+use Rattle.rules.specs.Book.{Book, leftAt, ofProfile, opened}
 use Rattle.rules.specs.Calls.{Call}
 use Rattle.rules.specs.Refusals.{order, firstOf, hourUnknown}
-use Rattle.rules.specs.Run.{Step, run}
+use Rattle.rules.specs.Run.{run}
 use Rattle.rules.specs.Opening.{opening, dayRefused, dayHours, dayWeekday}
 use Rattle.rules.specs.Reads.{LeftReply, directionReadRefuses, readDirection, profileReadRefuses, readProfile, rightReadRefuses, readRight}
 use Rattle.rules.specs.Demand3.{IsLeft, rightReply, Holds, Demand3}

@@ -2,7 +2,7 @@
 -- Assumes nothing.
 use Prim.Native.Nat.{ℕ, zero, suc, _≤_, _<_}
 use mathlib.Core.Path.{_≡_, refl, sym, _∙_}
-use mathlib.Core.Bool.{Bool, true, false, cond, _||_, _&&_, not}
+use mathlib.Core.Bool.{Bool, true, false, cond, _||_, _&&_}
 use mathlib.Core.List.{List, [], _∷_}
 use native.Mathlib.Nat.{le-of-suc-le-suc}
 use native.Mathlib.Omega.{arith}
@@ -15,7 +15,6 @@ use Rattle.rules.specs.Book.{Direction, Right, Book, flag, direction, ri
 use Rattle.rules.specs.Calls.{Call, AddDirection, AddProfile, AddParty, OfferDirection, OfferProfile, Bid, Nominate, Match}
 use Rattle.rules.specs.Refusals.{order, refuses, unknown, isMatched}
 use Rattle.rules.specs.Effects.{matchedAfter, effect}
-use Rattle.rules.specs.Run.{run}
 use Rattle.rules.specs.History.{isMatchOf, wasMatched}
 use Rattle.rules.proofs.Bools.{or-left, or-right, or-true}
 use Rattle.rules.proofs.Decisions.{Granted, fails}

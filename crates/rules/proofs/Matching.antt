@@ -1,7 +1,7 @@
 -- Demand 3, confirmed MW: the read answers what the granted calls give, and these MW never exceed a side, nor together the right.
 -- Assumes nothing.
 use Prim.Native.Nat.{ℕ, zero, suc, _+_, _*_, _/_, _≤_, _<_, zero-le}
-use mathlib.Core.Path.{_≡_, refl, sym, ap, _∙_}
+use mathlib.Core.Path.{_≡_, refl, ap, _∙_}
 use mathlib.Core.Bool.{Bool, true, false, cond, _||_, not}
 use mathlib.Core.List.{List, [], _∷_}
 use native.Mathlib.Nat.{le-refl, le-trans, le-of-eq, le-of-lt, div-mul-le-self, mul-le-mul-left, mul-le-mul-right, add-le-add, div-le-of-le-mul, le-of-mul-le-mul-right, min-le-left, min-le-right}
@@ -12,16 +12,16 @@ use borrow.Author.Tests.{eqb-true, leb-false, ltb-true, ltb-false, lt-ltb}
 use Rattle.rules.specs.Basics.{noMw, five}
 use Rattle.rules.specs.Book.{Right, Pair, Book, right, opened}
 use Rattle.rules.specs.Calls.{Call}
-use Rattle.rules.specs.Nominations.{isPairOf, pairTaken, pairOf, lower, lowerTotal, confirmedOf, confirmedAt}
+use Rattle.rules.specs.Nominations.{isPairOf, pairTaken, pairOf, confirmedOf, confirmedAt}
 use Rattle.rules.specs.Refusals.{order, firstOf, isMatched}
 use Rattle.rules.specs.Run.{run}
-use Rattle.rules.specs.Reads.{ConfirmedReply, confirmedReply, confirmedReadRefuses, readConfirmed}
+use Rattle.rules.specs.Reads.{confirmedReply, confirmedReadRefuses, readConfirmed}
 use Rattle.rules.specs.History.{Key, hasKey, directionsOf, rightsFrom, pairsFrom, lastSide, wasMatched, lowerMw, lowerSum, confirmedMw, confirmedNumber, confirmedBy}
 use Rattle.rules.specs.Demand3.{confirmedIn, confirmedTotal}
 use Rattle.rules.proofs.Bools.{and-left}
-use Rattle.rules.proofs.Histories.{after, history, run-follows}
+use Rattle.rules.proofs.Histories.{history, run-follows}
 use Rattle.rules.proofs.Rights.{rights}
-use Rattle.rules.proofs.Pairs.{keysOf, has-key, keys, lower-is, lower-total}
+use Rattle.rules.proofs.Pairs.{has-key, keys, lower-is, lower-total}
 use Rattle.rules.proofs.Matched.{matched-is}
 
 -- ---- the read

@@ -7,16 +7,14 @@ use mathlib.Core.List.{List, [], _∷_, _++_}
 use native.Mathlib.Nat.{add-zero, zero-add, add-assoc}
 use native.Mathlib.Omega.{arith}
 use lib.Dec.{eqb, leb}
-use lib.ListN.{getD}
 use borrow.Author.Tests.{eqb-true, lt-ltb}
 use Rattle.rules.specs.Basics.{mwAt}
 use Rattle.rules.specs.Sessions.{firstHour}
-use Rattle.rules.specs.Book.{Direction, Right, Book, direction, opened, holds, modelOf}
+use Rattle.rules.specs.Book.{Direction, Right, Book, direction, opened, holds}
 use Rattle.rules.specs.Calls.{Call, AddDirection, AddProfile, AddParty, OfferDirection, OfferProfile, Bid, Nominate, Match}
-use Rattle.rules.specs.Bids.{withRight}
 use Rattle.rules.specs.Effects.{rightsAfter, effect}
 use Rattle.rules.specs.Run.{run}
-use Rattle.rules.specs.History.{directionsOf, profilesOf, bidMw, bidSum, added, rightsWith, rightsThen, rightsFrom, rightSum}
+use Rattle.rules.specs.History.{directionsOf, bidMw, bidSum, added, rightsWith, rightsThen, rightsFrom, rightSum}
 use Rattle.rules.proofs.Bools.{and-left, and-right}
 use Rattle.rules.proofs.Decisions.{Granted}
 use Rattle.rules.proofs.Histories.{after, AllGranted, history, run-follows}

@@ -1,18 +1,18 @@
 -- In each hour a right has at most the MW granted on its direction, so the sum of a standing right and a bid never wraps.
 -- Assumes nothing.
 use Prim.Native.Nat.{ℕ, zero, suc, _+_, _-_, _%_, _^_, _≤_, _<_, zero-le}
-use mathlib.Core.Path.{_≡_, refl, sym, ap, _∙_, subst}
-use mathlib.Core.Bool.{Bool, true, false, cond, _||_, _&&_, not, true≢false}
+use mathlib.Core.Path.{_≡_, refl, sym, ap, _∙_}
+use mathlib.Core.Bool.{Bool, true, false, cond, _||_, _&&_, not}
 use mathlib.Core.List.{List, [], _∷_, _++_}
 use native.Mathlib.Nat.{zero-add, add-zero, le-trans, mod-eq-of-lt}
 use native.Mathlib.Omega.{arith}
-use lib.Dec.{eqb, leb, ltb, lit≤}
+use lib.Dec.{eqb, leb, ltb}
 use lib.ListN.{length, getD, drop, List·getD-append, length-append}
 use lib.Seq.{getD-drop}
 use borrow.Author.Tests.{eqb-true, leb-false, ltb-true, ltb-false, le-leb, not-false}
 use Rattle.rules.specs.Basics.{has, anyAbove, mwAt}
 use Rattle.rules.specs.Sessions.{sessionThere, firstHour, hoursIn}
-use Rattle.rules.specs.Book.{Direction, Right, Book, direction, place, opened, holds, modelOf}
+use Rattle.rules.specs.Book.{Direction, Right, Book, direction, place, opened, modelOf}
 use Rattle.rules.specs.Calls.{Call, AddDirection, AddProfile, AddParty, OfferDirection, OfferProfile, Bid, Nominate, Match}
 use Rattle.rules.specs.Bids.{share, withBid, wrapAdded, isRightOf, addedRight, withRight}
 use Rattle.rules.specs.Refusals.{order, refuses, unknown, wrongHours, hoursLacking}

@@ -2,7 +2,7 @@
 -- Assumes nothing.
 use Prim.Native.Nat.{ℕ, zero, suc, _+_, _-_, _^_, _≤_, _<_, zero-le}
 use mathlib.Core.Path.{_≡_, refl, sym, ap, _∙_, subst, subst⁻¹}
-use mathlib.Core.Bool.{Bool, true, false, cond, _||_, _&&_, true≢false, false≢true}
+use mathlib.Core.Bool.{Bool, true, false, _||_, _&&_, true≢false, false≢true}
 use mathlib.Core.List.{List, [], _∷_, _++_}
 use native.Mathlib.Nat.{add-zero, zero-add, suc-add, add-suc, zero-div, le-of-suc-le-suc}
 use native.Mathlib.Omega.{arith}
@@ -11,14 +11,12 @@ use lib.ListN.{getD, length}
 use borrow.Author.Tests.{eqb-true, eq-eqb, leb-true, leb-false, ltb-true, ltb-false, lt-ltb, le-ltb}
 use Rattle.rules.specs.Basics.{bit, has, mwAt}
 use Rattle.rules.specs.Book.{Book, holds, leftAt, ofProfile}
-use Rattle.rules.specs.Calls.{Bid}
 use Rattle.rules.specs.Bids.{Shortage, nothingShort, shortAt, orElse, isShort, shortProfile, shortHour, shortage, share}
 use Rattle.rules.specs.Refusals.{order, before, firstOf, refuses, unknown, shortageOf, number}
 use Rattle.rules.specs.Details.{refusal, shortHourOf, shortLimitOf}
-use Rattle.rules.specs.Run.{Step, applied}
+use Rattle.rules.specs.Run.{Step}
 use Rattle.rules.specs.Demand1.{None, Decided}
-use Rattle.rules.specs.Demand3.{WithinLimits}
-use Rattle.rules.specs.Shortages.{ShortHour, HourFits, NamesLimit, NamesFirst, bid, reply, first, ShortExactly, ShortRule}
+use Rattle.rules.specs.Shortages.{ShortHour, HourFits, NamesLimit, NamesFirst, bid, reply, first, ShortRule}
 use Rattle.rules.proofs.Bools.{and-left, and-right, and-false, or-left, or-right}
 use Rattle.rules.proofs.Decisions.{first-of, refused-so, passed, none-before, at, applied-number}
 use Rattle.rules.proofs.Histories.{refused-step}

@@ -2,7 +2,7 @@
 -- Nothing here uses a rule of the book's effects, but where 01 says "by the rule above": `confirmedOf`.
 -- Assumes nothing.
 use Prim.Native.Nat.{ℕ, _+_, min}
-use mathlib.Core.Bool.{Bool, true, false, cond, _&&_, _||_, not}
+use mathlib.Core.Bool.{Bool, false, cond, _&&_, _||_, not}
 use mathlib.Core.List.{List, [], _∷_, _++_}
 use lib.Dec.{eqb, leb}
 use lib.ListN.{getD, length}

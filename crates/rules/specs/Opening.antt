@@ -4,7 +4,6 @@ use Prim.Native.Nat.{ℕ}
 use mathlib.Core.Bool.{Bool, false, cond, _||_, _&&_, not}
 use lib.Dec.{eqb, ltb}
 use Rattle.rules.specs.Book.{opened}
-use Rattle.rules.specs.Calls.{Reply}
 use Rattle.rules.specs.Refusals.{order, firstOf}
 use Rattle.rules.specs.Run.{Step}
 

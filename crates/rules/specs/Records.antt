@@ -5,7 +5,7 @@ use mathlib.Core.Bool.{Bool, false, cond, _||_, _&&_, not}
 use mathlib.Core.List.{List, [], _∷_, _++_}
 use lib.Dec.{eqb, ltb}
 use lib.ListN.{length, getD, drop}
-use Rattle.rules.specs.Basics.{bit, mapOf, has, noMw}
+use Rattle.rules.specs.Basics.{bit, mapOf, has}
 use Rattle.rules.specs.Calls.{Reply}
 use Rattle.rules.specs.Refusals.{order, firstOf}
 use Rattle.rules.specs.declared.CallRecord.{CallRecord}
