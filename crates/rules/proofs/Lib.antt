@@ -12,3 +12,4 @@ pub mod Pairs
 pub mod Matched
 pub mod Matching
 pub mod Demand
+pub mod Cases

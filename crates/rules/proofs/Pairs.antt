@@ -15,10 +15,35 @@ use Rattle.rules.specs.Nominations.{outOf, intoOf, isPairOf, pairTaken, 
 use Rattle.rules.specs.Refusals.{order, refuses, field}
 use Rattle.rules.specs.Effects.{pairsAfter, effect}
 use Rattle.rules.specs.Run.{run}
-use Rattle.rules.specs.History.{Key, isKey, hasKey, pairsWith, pairsThen, pairsFrom, sideAfter, lastSide, lowerMw, lowerSum}
+use Rattle.rules.specs.History.{Key, isKey, hasKey, outParty, intoParty, pairsWith, pairsThen, pairsFrom, sideAfter, lastSide, lowerMw, lowerSum}
 use Rattle.rules.proofs.Bools.{and-left, and-right, or-left, or-right}
 use Rattle.rules.proofs.Decisions.{Granted, fails}
 use Rattle.rules.proofs.Histories.{after, AllGranted, history, run-follows}
+
+-- ---- the sides of a nomination
+
+-- the side of a nomination, 0 or 1
+data Side : ℕ → Type 0 where
+  outSide : Side 0
+  intoSide : Side 1
+
+side-of : (side : ℕ) → side ≤ 1 → Side side
+side-of zero h = outSide
+side-of (suc zero) h = intoSide
+side-of (suc (suc k)) h = absurd (omega arith)
+
+granted-side : (b : Book) (time sender other r side : ℕ) (mw : List ℕ) → Granted b (Nominate time sender other r side mw) → Side side
+unfolding order has refuses field
+granted-side b time sender other r side mw g = side-of side (ltb-false 1 side (or-right (ltb latest time) _ (or-left _ _ (fails g 3 tt))))
+
+-- the parties of a granted nomination, as the book and as the history name them
+out-same : {side : ℕ} (sender other : ℕ) → Side side → outOf sender other side ≡ outParty sender other side
+out-same sender other outSide = refl
+out-same sender other intoSide = refl
+
+into-same : {side : ℕ} (sender other : ℕ) → Side side → intoOf sender other side ≡ intoParty sender other side
+into-same sender other outSide = refl
+into-same sender other intoSide = refl
 
 -- ---- the pairs are those of the granted nominations
 
@@ -50,25 +75,29 @@ keys-with r o i side mw (x ∷ xs) = go (isPairOf r o i x) refl (hasKey r o i (k
         again true = refl
         again false = refl
 
-keys-step : (ps : List Pair) (c : Call) → keysOf (pairsAfter ps c) ≡ pairsThen (keysOf ps) c
+keys-step : (b : Book) (c : Call) → Granted b c → keysOf (pairsAfter (b .pairs) c) ≡ pairsThen (keysOf (b .pairs)) c
 unfolding pairsAfter
-keys-step ps (AddDirection o i m) = refl
-keys-step ps (AddProfile map) = refl
-keys-step ps (AddParty code access) = refl
-keys-step ps (OfferDirection time d h mw) = refl
-keys-step ps (OfferProfile time k h mw) = refl
-keys-step ps (Bid time k d session mw) = refl
-keys-step ps (Nominate time sender other r side mw) = keys-with r (outOf sender other side) (intoOf sender other side) side mw ps
-keys-step ps (Match time d session) = refl
+keys-step b (AddDirection o i m) g = refl
+keys-step b (AddProfile map) g = refl
+keys-step b (AddParty code access) g = refl
+keys-step b (OfferDirection time d h mw) g = refl
+keys-step b (OfferProfile time k h mw) g = refl
+keys-step b (Bid time k d session mw) g = refl
+keys-step b (Nominate time sender other r side mw) g =
+    let s = granted-side b time sender other r side mw g in
+    rw (← out-same sender other s, ← into-same sender other s) (keys-with r (outOf sender other side) (intoOf sender other side) side mw (b .pairs))
+keys-step b (Match time d session) g = refl
 
-keys-after : (b : Book) (cs : List Call) → keysOf (after b cs .pairs) ≡ pairsFrom (keysOf (b .pairs)) cs
+keys-after : (b : Book) (cs : List Call) → AllGranted b cs → keysOf (after b cs .pairs) ≡ pairsFrom (keysOf (b .pairs)) cs
 unfolding pairsFrom effect
-keys-after b [] = refl
-keys-after b (c ∷ cs) = rw (← keys-step (b .pairs) c) (keys-after (effect b c) cs)
+keys-after b [] g = refl
+keys-after b (c ∷ cs) g = rw (← keys-step b c (g .0)) (keys-after (effect b c) cs (g .1))
 
 pub keys : (n day : ℕ) (cs : List Call) → keysOf (run (opened n day) cs .book .pairs) ≡ pairsFrom [] (history (opened n day) cs)
 unfolding opened
-keys n day cs = rw (run-follows (opened n day) cs .book) (keys-after (opened n day) (history (opened n day) cs))
+keys n day cs =
+    let w = run-follows (opened n day) cs in
+    rw (w .book) (keys-after (opened n day) (history (opened n day) cs) (w .granted))
 
 -- ---- right, out party and in party compared
 
@@ -138,16 +167,6 @@ pair-with r o i r′ o′ i′ side mw (x ∷ xs) = go (isPairOf r′ o′ i′ 
     go false t true u rest = rw t (rw (u, apart r o i r′ o′ i′ x t u))
     go false t false u rest = rw t (rw u rest)
 
--- the side of a nomination, 0 or 1
-data Side : ℕ → Type 0 where
-  outSide : Side 0
-  intoSide : Side 1
-
-side-of : (side : ℕ) → side ≤ 1 → Side side
-side-of zero h = outSide
-side-of (suc zero) h = intoSide
-side-of (suc (suc k)) h = absurd (omega arith)
-
 -- one side of a pair after a nomination
 side-with : (r o i s r′ o′ i′ side : ℕ) (mw : List ℕ) (ps : List Pair) → Side s → Side side
     → sideOf s (pairOf r o i (withPair r′ o′ i′ side mw ps)) ≡ cond (key r o i r′ o′ i′ && eqb side s) mw (sideOf s (pairOf r o i ps))
@@ -164,7 +183,7 @@ side-with r o i s r′ o′ i′ side mw ps a e = rw (pair-with r o i r′ o′ 
 module _ (r o i s : ℕ) (a : Side s) where
   side-step : (b : Book) (c : Call) → Granted b c → (ps : List Pair)
       → sideOf s (pairOf r o i (pairsAfter ps c)) ≡ sideAfter r o i s (sideOf s (pairOf r o i ps)) c
-  unfolding order has refuses field pairsAfter sideAfter
+  unfolding pairsAfter sideAfter
   side-step b (AddDirection o′ i′ m) g ps = refl
   side-step b (AddProfile map) g ps = refl
   side-step b (AddParty code access) g ps = refl
@@ -172,8 +191,8 @@ module _ (r o i s : ℕ) (a : Side s) where
   side-step b (OfferProfile time k h mw) g ps = refl
   side-step b (Bid time k d session mw) g ps = refl
   side-step b (Nominate time sender other r′ side mw) g ps =
-      side-with r o i s r′ (outOf sender other side) (intoOf sender other side) side mw ps a
-      (side-of side (ltb-false 1 side (or-right (ltb latest time) _ (or-left _ _ (fails g 3 tt)))))
+      let e = granted-side b time sender other r′ side mw g in
+      rw (← out-same sender other e, ← into-same sender other e) (side-with r o i s r′ (outOf sender other side) (intoOf sender other side) side mw ps a e)
   side-step b (Match time d session) g ps = refl
 
   side-after : (b : Book) (cs : List Call) → AllGranted b cs

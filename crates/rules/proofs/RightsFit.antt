@@ -14,7 +14,7 @@ use Rattle.rules.specs.Basics.{has, anyAbove, mwAt}
 use Rattle.rules.specs.Sessions.{sessionThere, firstHour, hoursIn}
 use Rattle.rules.specs.Book.{Direction, Right, Book, direction, place, opened, modelOf}
 use Rattle.rules.specs.Calls.{Call, AddDirection, AddProfile, AddParty, OfferDirection, OfferProfile, Bid, Nominate, Match}
-use Rattle.rules.specs.Bids.{share, withBid, wrapAdded, isRightOf, addedRight, withRight}
+use Rattle.rules.specs.Bids.{share, withBid, cellLimit, wrapAdded, isRightOf, addedRight, withRight}
 use Rattle.rules.specs.Refusals.{order, refuses, unknown, wrongHours, hoursLacking}
 use Rattle.rules.specs.Effects.{directionsAfter, grantedAfter, rightsAfter, effect}
 use Rattle.rules.specs.History.{added, rightsWith}
@@ -34,7 +34,7 @@ getD-added (x ∷ xs) [] k = sym (add-zero _)
 getD-added (x ∷ xs) (y ∷ ys) zero = refl
 getD-added (x ∷ xs) (y ∷ ys) (suc k) = getD-added xs ys k
 
-wrap-plain : (xs ys : List ℕ) → ((k : ℕ) → getD xs k 0 + getD ys k 0 < 2 ^ 32) → wrapAdded xs ys ≡ added xs ys
+wrap-plain : (xs ys : List ℕ) → ((k : ℕ) → getD xs k 0 + getD ys k 0 < cellLimit) → wrapAdded xs ys ≡ added xs ys
 unfolding wrapAdded added
 wrap-plain [] ys h = refl
 wrap-plain (x ∷ xs) [] h = refl

@@ -11,7 +11,7 @@ use lib.ListN.{getD, length}
 use borrow.Author.Tests.{eqb-true, eq-eqb, leb-true, leb-false, ltb-true, ltb-false, lt-ltb, le-ltb}
 use Rattle.rules.specs.Basics.{bit, has, mwAt}
 use Rattle.rules.specs.Book.{Book, holds, leftAt, ofProfile}
-use Rattle.rules.specs.Bids.{Shortage, nothingShort, shortAt, orElse, isShort, shortProfile, shortHour, shortage, share}
+use Rattle.rules.specs.Bids.{Shortage, nothingShort, shortAt, orElse, isShort, profileShort, shortProfile, shortHour, shortage, share}
 use Rattle.rules.specs.Refusals.{order, before, firstOf, refuses, unknown, shortageOf, number}
 use Rattle.rules.specs.Details.{refusal, shortHourOf, shortLimitOf}
 use Rattle.rules.specs.Run.{Step}
@@ -26,6 +26,20 @@ no-bit : (d : ℕ) → bit 0 d ≡ false
 unfolding bit
 no-bit d = rw (zero-div (2 ^ d))
 
+-- what the test of one profile says
+module _ (b : Book) (d hour mw p map : ℕ) where
+  short-held : profileShort b d hour mw p map ≡ true → bit map d ≡ true
+  unfolding profileShort
+  short-held t = and-left _ _ t
+
+  short-above : profileShort b d hour mw p map ≡ true → leftAt b (ofProfile p) hour < mw
+  unfolding profileShort
+  short-above t = ltb-true (leftAt b (ofProfile p) hour) mw (and-right (bit map d) _ t)
+
+  short-not : profileShort b d hour mw p map ≡ false → bit map d ≡ true → mw ≤ leftAt b (ofProfile p) hour
+  unfolding profileShort
+  short-not t h = ltb-false (leftAt b (ofProfile p) hour) mw (and-false (bit map d) _ t h)
+
 -- ---- a bid that is not short
 
 -- in one hour: each profile that holds the direction, numbered from p on
@@ -35,14 +49,14 @@ module _ (b : Book) (d hour mw : ℕ) where
   unfolding shortProfile
   profiles-fit p [] e k h = absurd (true≢false (sym h ∙ no-bit d))
   profiles-fit p (map ∷ maps) e k h =
-      go (bit map d && ltb (leftAt b (ofProfile p) hour) mw) refl e k h (λ e′ k′ h′. profiles-fit (suc p) maps e′ k′ h′)
+      go (profileShort b d hour mw p map) refl e k h (λ e′ k′ h′. profiles-fit (suc p) maps e′ k′ h′)
     where
-      go : (t : Bool) → (bit map d && ltb (leftAt b (ofProfile p) hour) mw) ≡ t → isShort (shortProfile b d hour mw p (map ∷ maps)) ≡ false
+      go : (t : Bool) → (profileShort b d hour mw p map) ≡ t → isShort (shortProfile b d hour mw p (map ∷ maps)) ≡ false
           → (k : ℕ) → bit (getD (map ∷ maps) k 0) d ≡ true
           → (isShort (shortProfile b d hour mw (suc p) maps) ≡ false → (k : ℕ) → bit (getD maps k 0) d ≡ true → mw ≤ leftAt b (ofProfile (suc p + k)) hour)
           → mw ≤ leftAt b (ofProfile (p + k)) hour
       go true t e k h rest = absurd (true≢false (rw t at e))
-      go false t e zero h rest = rw add-zero (ltb-false (leftAt b (ofProfile p) hour) mw (and-false (bit map d) _ t h))
+      go false t e zero h rest = rw add-zero (short-not b d hour mw p map t h)
       go false t e (suc k) h rest =
           subst (λ (x : ℕ). mw ≤ leftAt b (ofProfile x) hour) (suc-add p k ∙ sym (add-suc p k)) (rest (rw t at e) k h)
 
@@ -102,12 +116,12 @@ profile-named : (b : Book) (d hour mw p : ℕ) (maps : List ℕ) (h l : ℕ) →
 unfolding shortProfile
 profile-named b d hour mw p [] h l e = absurd (not-short nothingShort h l refl e)
 profile-named b d hour mw p (map ∷ maps) h l e =
-    go (bit map d && ltb (leftAt b (ofProfile p) hour) mw) refl (λ f. profile-named b d hour mw (suc p) maps h l f)
+    go (profileShort b d hour mw p map) refl (λ f. profile-named b d hour mw (suc p) maps h l f)
   where
     next : (k : ℕ) → suc p + k ≡ p + suc k
     next k = suc-add p k ∙ sym (add-suc p k)
 
-    go : (t : Bool) → (bit map d && ltb (leftAt b (ofProfile p) hour) mw) ≡ t
+    go : (t : Bool) → (profileShort b d hour mw p map) ≡ t
         → (shortProfile b d hour mw (suc p) maps ≡ shortAt h l → NamesProfile b d hour mw (suc p) maps h l)
         → NamesProfile b d hour mw p (map ∷ maps) h l
     go true t rest =
@@ -116,8 +130,8 @@ profile-named b d hour mw p (map ∷ maps) h l e =
           k = 0;
           hour-is = cc;
           limit-is = rw (add-zero p) (cc);
-          held = and-left _ _ t;
-          above = rw (add-zero p) (ltb-true (leftAt b (ofProfile p) hour) mw (and-right (bit map d) _ t));
+          held = short-held b d hour mw p map t;
+          above = rw (add-zero p) (short-above b d hour mw p map t);
           lower = λ q i g. absurd (omega arith);
         }
     go false t rest =
@@ -134,7 +148,7 @@ profile-named b d hour mw p (map ∷ maps) h l e =
         below : (q : ℕ) → q < suc (rest (rw t at e) .k) → bit (getD (map ∷ maps) q 0) d ≡ true
             → ((j : ℕ) → j < rest (rw t at e) .k → bit (getD maps j 0) d ≡ true → mw ≤ leftAt b (ofProfile (suc p + j)) hour)
             → mw ≤ leftAt b (ofProfile (p + q)) hour
-        below zero i g lower = rw (add-zero p) (ltb-false (leftAt b (ofProfile p) hour) mw (and-false (bit map d) _ t g))
+        below zero i g lower = rw (add-zero p) (short-not b d hour mw p map t g)
         below (suc j) i g lower = rw (← next j) (lower j (le-of-suc-le-suc i) g)
 
 hour-named : (b : Book) (d hour mw h l : ℕ) → shortHour b d hour mw ≡ shortAt h l → (h ≡ hour) × NamesLimit b d hour mw l

@@ -23,11 +23,15 @@ abbrev pub isShort : Shortage → Bool
 isShort nothingShort = false
 isShort (shortAt h l) = true
 
--- the lowest profile that holds direction d and has less than mw left in the hour; the maps are those of the profiles from p on
+-- profile p, with this map, holds direction d and has less than mw left in the hour
+unfoldable pub profileShort : Book → ℕ → ℕ → ℕ → ℕ → ℕ → Bool
+profileShort b d hour mw p map = bit map d && ltb (leftAt b (ofProfile p) hour) mw
+
+-- the lowest such profile; the maps are those of the profiles from p on
 unfoldable pub shortProfile : Book → ℕ → ℕ → ℕ → ℕ → List ℕ → Shortage
 shortProfile b d hour mw p [] = nothingShort
 shortProfile b d hour mw p (map ∷ maps) =
-    cond (bit map d && ltb (leftAt b (ofProfile p) hour) mw) (shortAt hour (suc p)) (shortProfile b d hour mw (suc p) maps)
+    cond (profileShort b d hour mw p map) (shortAt hour (suc p)) (shortProfile b d hour mw (suc p) maps)
 
 -- in one hour the direction goes before the profiles
 unfoldable pub shortHour : Book → ℕ → ℕ → ℕ → Shortage
@@ -51,11 +55,15 @@ withBid maps d first mw i (x ∷ xs) = (x + share maps d first mw (i / 25) (1 + 
 
 -- ---- rights
 
--- the MW of a standing right and of a bid, hour by hour, in cells of 32 bits. That no sum wraps is part of demand 3.
+-- the numbers of a cell are below this
+abbrev pub cellLimit : ℕ
+cellLimit = 2 ^ 32
+
+-- the MW of a standing right and of a bid, hour by hour, in cells. That no sum wraps is part of demand 3.
 unfoldable pub wrapAdded : List ℕ → List ℕ → List ℕ
 wrapAdded [] ys = ys
 wrapAdded (x ∷ xs) [] = x ∷ xs
-wrapAdded (x ∷ xs) (y ∷ ys) = (x + y) % 2 ^ 32 ∷ wrapAdded xs ys
+wrapAdded (x ∷ xs) (y ∷ ys) = (x + y) % cellLimit ∷ wrapAdded xs ys
 
 -- the right of a holder, direction and session
 unfoldable pub isRightOf : ℕ → ℕ → ℕ → Right → Bool

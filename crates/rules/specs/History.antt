@@ -10,7 +10,7 @@ use Rattle.rules.specs.Basics.{mwAt, noMw, five}
 use Rattle.rules.specs.Sessions.{firstHour}
 use Rattle.rules.specs.Book.{Direction, Right, direction, right, ofProfile, holds}
 use Rattle.rules.specs.Calls.{Call, AddDirection, AddProfile, AddParty, OfferDirection, OfferProfile, Bid, Nominate, Match, Reply, isGrant}
-use Rattle.rules.specs.Nominations.{outOf, intoOf, confirmedOf}
+use Rattle.rules.specs.Nominations.{confirmedOf}
 use Rattle.rules.specs.Reads.{ConfirmedReply, confirmedReply}
 
 -- granted is a call that wasn't refused; in order
@@ -129,6 +129,13 @@ rightSum n ds d hour (x ∷ xs) =
 
 -- ---- nominations
 
+-- on side 0 the sender is the out party, on side 1 the in party
+abbrev pub outParty : ℕ → ℕ → ℕ → ℕ
+outParty sender other side = cond (eqb side 1) other sender
+
+abbrev pub intoParty : ℕ → ℕ → ℕ → ℕ
+intoParty sender other side = cond (eqb side 1) sender other
+
 -- a pair: right, out party, in party
 pub record Key : Type 0 where
   pub right : ℕ
@@ -153,7 +160,7 @@ pairsThen ks (AddParty code access) = ks
 pairsThen ks (OfferDirection time d h mw) = ks
 pairsThen ks (OfferProfile time p h mw) = ks
 pairsThen ks (Bid time p d session mw) = ks
-pairsThen ks (Nominate time sender other r side mw) = pairsWith r (outOf sender other side) (intoOf sender other side) ks
+pairsThen ks (Nominate time sender other r side mw) = pairsWith r (outParty sender other side) (intoParty sender other side) ks
 pairsThen ks (Match time d session) = ks
 
 unfoldable pub pairsFrom : List Key → List Call → List Key
@@ -169,7 +176,7 @@ sideAfter r o i side was (OfferDirection time d h mw) = was
 sideAfter r o i side was (OfferProfile time p h mw) = was
 sideAfter r o i side was (Bid time p d session mw) = was
 sideAfter r o i side was (Nominate time sender other r′ side′ mw) =
-    cond (eqb r′ r && eqb (outOf sender other side′) o && eqb (intoOf sender other side′) i && eqb side′ side) mw was
+    cond (eqb r′ r && eqb (outParty sender other side′) o && eqb (intoParty sender other side′) i && eqb side′ side) mw was
 sideAfter r o i side was (Match time d session) = was
 
 -- each side has the five MW of its last granted nomination, `was` where there is none

@@ -19,3 +19,4 @@ pub mod History
 pub mod Demand1
 pub mod Demand3
 pub mod Shortages
+pub mod Cases

@@ -1,0 +1,153 @@
+-- 01, Cases: those marked M, as one table of what the definitions compute and what 01 says. Yes is 1 and no is 0.
+-- Assumes nothing.
+use Prim.Native.Nat.{ℕ, _+_, _-_, _%_}
+use mathlib.Core.Path.{_≡_}
+use mathlib.Core.Bool.{Bool, cond, not}
+use mathlib.Core.List.{List, [], _∷_, _++_}
+use lib.ListN.{getD}
+use Rattle.rules.specs.Sessions.{firstHour, hoursIn}
+use Rattle.rules.specs.Windows.{bidsClose, bidOutside}
+use Rattle.rules.specs.Codes.{charValue, weightedSum, isCode}
+use Rattle.rules.specs.Calls.{Call, AddDirection, AddProfile, AddParty, OfferDirection, OfferProfile, Bid, Nominate, Match, Reply}
+use Rattle.rules.specs.Run.{Run, run}
+use Rattle.rules.specs.Opening.{opening}
+use Rattle.rules.specs.Reads.{readDirection, readConfirmed}
+use Rattle.rules.specs.Records.{recordOf, reading, fieldsOf, callOf}
+use Rattle.rules.specs.declared.CallRecord.{CallRecord}
+
+pub record Case : Type 0 where
+  pub computed : List ℕ
+  pub said : List ℕ
+
+-- each case computes what is said
+abbrev pub AllAsSaid : List Case → Type 0
+AllAsSaid [] = Unit {0}
+AllAsSaid (c ∷ cs) = (c .computed ≡ c .said) × AllAsSaid cs
+
+-- ---- how results are shown as numbers
+
+abbrev yes-no : Bool → ℕ
+yes-no b = cond b 1 0
+
+-- number and details of each reply, one after the other
+abbrev numbersOf : List Reply → List ℕ
+numbersOf [] = []
+numbersOf (r ∷ rs) = r .number ∷ r .first ∷ r .second ∷ numbersOf rs
+
+-- first and last hour of a session of the four-hour model
+abbrev hoursOf : ℕ → ℕ → List ℕ
+hoursOf n session = firstHour n 4 session ∷ (firstHour n 4 session + hoursIn n 4 session - 1) ∷ []
+
+-- on a Monday of 24 hours
+unfoldable pub monday : List Call → Run
+monday cs = run (opening 24 1 .book) cs
+
+-- ---- party codes
+
+-- 10XCZ-CEPS-GRIDE
+abbrev ceps : List ℕ
+ceps = 49 ∷ 48 ∷ 88 ∷ 67 ∷ 90 ∷ 45 ∷ 67 ∷ 69 ∷ 80 ∷ 83 ∷ 45 ∷ 71 ∷ 82 ∷ 73 ∷ 68 ∷ 69 ∷ []
+
+-- 10YCZ-CEPS-----N
+abbrev area : List ℕ
+area = 49 ∷ 48 ∷ 89 ∷ 67 ∷ 90 ∷ 45 ∷ 67 ∷ 69 ∷ 80 ∷ 83 ∷ 45 ∷ 45 ∷ 45 ∷ 45 ∷ 45 ∷ 78 ∷ []
+
+-- 11XUNI-CZ------ with the last character given
+abbrev uni : ℕ → List ℕ
+uni c = 49 ∷ 49 ∷ 88 ∷ 85 ∷ 78 ∷ 73 ∷ 45 ∷ 67 ∷ 90 ∷ 45 ∷ 45 ∷ 45 ∷ 45 ∷ 45 ∷ 45 ∷ c ∷ []
+
+-- the value that the last character should have
+abbrev due : List ℕ → ℕ
+due code = 36 - (weightedSum code - 1) % 37
+
+-- ---- calls
+
+-- one-hour MW
+abbrev one : ℕ → List ℕ
+one mw = mw ∷ 0 ∷ 0 ∷ 0 ∷ 0 ∷ []
+
+abbrev fourHours : List Call
+fourHours =
+    AddDirection 0 4 4 ∷ AddParty ceps 1
+    ∷ OfferDirection 1000 0 1 150 ∷ OfferDirection 1000 0 2 150 ∷ OfferDirection 1000 0 3 200 ∷ OfferDirection 1000 0 4 200
+    ∷ Bid 1100 0 0 1 (100 ∷ 150 ∷ 200 ∷ 200 ∷ 0 ∷ []) ∷ Bid 1100 0 0 1 (50 ∷ 0 ∷ 0 ∷ 10 ∷ 0 ∷ []) ∷ []
+
+abbrev sharedProfile : List Call
+sharedProfile =
+    AddDirection 0 4 1 ∷ AddDirection 0 1 1 ∷ AddProfile 3 ∷ AddParty ceps 1
+    ∷ OfferDirection 1000 0 1 100 ∷ OfferDirection 1000 1 1 100 ∷ OfferProfile 1000 0 1 120
+    ∷ Bid 1100 0 0 1 (one 80) ∷ Bid 1100 0 1 1 (one 50) ∷ Bid 1100 0 1 1 (one 40) ∷ []
+
+-- party 0 nominates a right of 100 with itself (95 out, 90 in) and with party 1 (60 out, 70 in): m 90 and 60
+abbrev twoPairs : List Call
+twoPairs =
+    AddDirection 0 4 1 ∷ AddParty ceps 17 ∷ AddParty (uni 86) 16
+    ∷ OfferDirection 1000 0 1 100 ∷ Bid 1100 0 0 1 (one 100)
+    ∷ Nominate 1110 0 0 0 0 (one 95) ∷ Nominate 1110 0 0 0 1 (one 90)
+    ∷ Nominate 1110 0 1 0 0 (one 60) ∷ Nominate 1110 1 0 0 1 (one 70)
+    ∷ Match 1394 0 1 ∷ Match 1395 0 1 ∷ []
+
+-- three pairs of 50 on both sides: with itself, with party 1, and of party 1 with party 0
+abbrev threePairs : List Call
+threePairs =
+    AddDirection 0 4 1 ∷ AddParty ceps 17 ∷ AddParty (uni 86) 17
+    ∷ OfferDirection 1000 0 1 100 ∷ Bid 1100 0 0 1 (one 100)
+    ∷ Nominate 1110 0 0 0 0 (one 50) ∷ Nominate 1110 0 0 0 1 (one 50)
+    ∷ Nominate 1110 0 1 0 0 (one 50) ∷ Nominate 1110 1 0 0 1 (one 50)
+    ∷ Nominate 1110 1 0 0 0 (one 50) ∷ Nominate 1110 0 1 0 1 (one 50)
+    ∷ Match 1395 0 1 ∷ []
+
+-- time 1,100, party 2, direction 0, session 1, 50 MW
+unfoldable pub bidRecord : CallRecord
+bidRecord = callOf (3 ∷ 1100 ∷ 2 ∷ 0 ∷ 0 ∷ 0 ∷ 1 ∷ 0 ∷ 0 ∷ 50 ∷ 0 ∷ 0 ∷ 0 ∷ 0 ∷ 0 ∷ [])
+
+abbrev bidBytes : List ℕ
+bidBytes = 0x57 ∷ 0x02 ∷ 0x03 ∷ 0x4C ∷ 0x04 ∷ 0x02 ∷ 0x00 ∷ 0x01 ∷ 0x32 ∷ 0x00 ∷ []
+
+-- ---- the table
+
+unfoldable pub cases : List Case
+cases =
+    -- 10XCZ-CEPS-GRIDE is a party code
+    record { computed = yes-no (isCode ceps) ∷ []; said = 1 ∷ [] }
+    -- 10YCZ-CEPS-----N checks (N is 23) but has no X
+    ∷ record { computed = yes-no (isCode area) ∷ due area ∷ charValue (getD area 15 0) ∷ []; said = 0 ∷ 23 ∷ 23 ∷ [] }
+    -- 11XUNI-CZ------5 fails: V (31) would be due
+    ∷ record { computed = yes-no (isCode (uni 53)) ∷ due (uni 53) ∷ charValue 86 ∷ yes-no (isCode (uni 86)) ∷ []; said = 0 ∷ 31 ∷ 31 ∷ 1 ∷ [] }
+    -- N = 25: session 1 is hours 1-5, 2 is 6-9
+    ∷ record { computed = hoursOf 25 1 ++ hoursOf 25 2; said = 1 ∷ 5 ∷ 6 ∷ 9 ∷ [] }
+    -- N = 23: session 6 is 20-23
+    ∷ record { computed = hoursOf 23 6; said = 20 ∷ 23 ∷ [] }
+    -- one-hour model, no Wednesday: for hour 1 a bid at 1,080 and 1,289 is in, at 1,079 and 1,290 out
+    ∷ record {
+      computed = yes-no (not (bidOutside 24 1 1 1 1080)) ∷ yes-no (not (bidOutside 24 1 1 1 1289)) ∷ yes-no (not (bidOutside 24 1 1 1 1079)) ∷ yes-no (not (bidOutside 24 1 1 1 1290)) ∷ [];
+      said = 1 ∷ 1 ∷ 0 ∷ 0 ∷ [];
+    }
+    -- hour 24 closes for bids at 2,670, on Tuesday at 2,490
+    ∷ record { computed = bidsClose 1 1 24 ∷ bidsClose 2 1 24 ∷ []; said = 2670 ∷ 2490 ∷ [] }
+    -- the record of a bid, and the call read from it
+    ∷ record { computed = recordOf bidRecord; said = bidBytes }
+    ∷ record { computed = reading bidBytes .number ∷ reading bidBytes .length ∷ fieldsOf (reading bidBytes .call); said = 0 ∷ 10 ∷ fieldsOf bidRecord }
+    -- four hours offered 150, 150, 200, 200: granted, then short in the fourth, and the first still has 50
+    ∷ record {
+      computed = numbersOf (monday fourHours .replies);
+      said = 0 ∷ 0 ∷ 0 ∷ 0 ∷ 0 ∷ 0 ∷ 0 ∷ 150 ∷ 0 ∷ 0 ∷ 150 ∷ 0 ∷ 0 ∷ 200 ∷ 0 ∷ 0 ∷ 200 ∷ 0 ∷ 0 ∷ 0 ∷ 0 ∷ 15 ∷ 4 ∷ 0 ∷ [];
+    }
+    ∷ record { computed = readDirection (monday fourHours .book) 0 1 .left ∷ []; said = 50 ∷ [] }
+    -- two directions of 100, profile 120: 80 granted, 50 on the other short by the profile, 40 granted
+    ∷ record {
+      computed = numbersOf (monday sharedProfile .replies);
+      said = 0 ∷ 0 ∷ 0 ∷ 0 ∷ 1 ∷ 0 ∷ 0 ∷ 0 ∷ 0 ∷ 0 ∷ 0 ∷ 0 ∷ 0 ∷ 100 ∷ 0 ∷ 0 ∷ 100 ∷ 0 ∷ 0 ∷ 120 ∷ 0 ∷ 0 ∷ 0 ∷ 0 ∷ 15 ∷ 1 ∷ 1 ∷ 0 ∷ 1 ∷ 0 ∷ [];
+    }
+    -- right 100: m 90, 60 give 60, 40; the last two nominations exceed the right on their side, and matching at 1,394 is too early
+    ∷ record { computed = readConfirmed (monday twoPairs .book) 0 0 0 .mw ++ readConfirmed (monday twoPairs .book) 0 0 1 .mw; said = one 60 ++ one 40 }
+    ∷ record {
+      computed = numbersOf (monday twoPairs .replies);
+      said = 0 ∷ 0 ∷ 0 ∷ 0 ∷ 0 ∷ 0 ∷ 0 ∷ 1 ∷ 0 ∷ 0 ∷ 100 ∷ 0 ∷ 0 ∷ 0 ∷ 0 ∷ 0 ∷ 0 ∷ 0 ∷ 0 ∷ 0 ∷ 0 ∷ 0 ∷ 1 ∷ 0 ∷ 0 ∷ 1 ∷ 0 ∷ 8 ∷ 0 ∷ 0 ∷ 0 ∷ 1 ∷ 0 ∷ [];
+    }
+    -- right 100: m 50, 50, 50 give 33 each
+    ∷ record {
+      computed = readConfirmed (monday threePairs .book) 0 0 0 .mw ++ readConfirmed (monday threePairs .book) 0 0 1 .mw ++ readConfirmed (monday threePairs .book) 0 1 0 .mw;
+      said = one 33 ++ one 33 ++ one 33;
+    }
+    ∷ []
