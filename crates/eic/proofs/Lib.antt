@@ -1,0 +1,2 @@
+-- What the proofs of eic share.
+pub mod Codes

@@ -1,0 +1,2 @@
+-- What the contracts of eic cite.
+pub mod Chars
