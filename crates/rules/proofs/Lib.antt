@@ -13,3 +13,5 @@ pub mod Matched
 pub mod Matching
 pub mod Demand
 pub mod Cases
+pub mod Bits
+pub mod Records
