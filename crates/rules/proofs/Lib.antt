@@ -15,3 +15,4 @@ pub mod Demand
 pub mod Cases
 pub mod Bits
 pub mod Records
+pub mod Marks
