@@ -1,0 +1,18 @@
+// Runs what is tested and not proved: a line for each case, with what came out and what was expected.
+mod print;
+mod codes;
+mod damaged;
+mod records;
+mod sessions;
+mod windows;
+
+use print::{Tally, fill};
+
+fn main() {
+    let codes = codes::run(Tally { cases: 0, wrong: 0 });
+    let sessions = sessions::run(codes);
+    let windows = windows::run(sessions);
+    let tally = damaged::run(records::run(windows));
+    let numbers = [tally.cases, tally.wrong];
+    fill(b"# cases, # not as expected\n", &numbers);
+}
