@@ -3,16 +3,16 @@
 use Prim.Native.Nat.{ℕ, _+_, _*_, _-_, _≤_, _<_, min}
 use mathlib.Core.Path.{_≡_, refl, sym, ap, _∙_}
 use mathlib.Core.Bool.{Bool, true, false, cond, _||_}
-use mathlib.Core.List.{List}
+use mathlib.Core.List.{List, []}
 use native.Mathlib.Omega.{arith}
 use native.Mathlib.Nat.{zero-add}
 use lib.Dec.{eqb, leb, ltb, lit≤}
 use borrow.Author.Tests.{leb-false, ltb-false}
 use lib.ListN.{length, getD}
-use Rattle.rules.specs.Book.{Book, Direction, place, direction, leftAt, modelOf}
+use Rattle.rules.specs.Book.{Book, Direction, Party, place, direction, party, right, leftAt, modelOf}
 use Rattle.rules.specs.Refusals.{order, firstOf, hourUnknown}
-use Rattle.cells.specs.Layout.{DIRECTIONS, PROFILES, OFFERED, GRANTED}
-use Rattle.cells.specs.View.{cell, counted, dayHoursIn, directionAt, directionsIn, offeredIn, grantedIn, profilesIn, bookOf}
+use Rattle.cells.specs.Layout.{DIRECTIONS, PROFILES, PARTIES, OFFERED, GRANTED, RIGHTS}
+use Rattle.cells.specs.View.{cell, counted, dayHoursIn, directionAt, directionsIn, profilesIn, partyAt, partiesIn, offeredIn, grantedIn, rightAt, rightsIn, bookOf}
 use Rattle.rules.specs.Reads.{directionReadRefuses, readDirection}
 use Rattle.rules.proofs.Bools.{or-left, or-right}
 use Rattle.cells.proofs.Rows.{rows-length, rows-at}
@@ -21,11 +21,6 @@ use Rattle.cells.proofs.Stores.{part-at, part-length}
 pub direction-count : (b : List ℕ) → length (bookOf b .directions) ≡ counted b DIRECTIONS 24
 unfolding bookOf directionsIn
 direction-count b = rows-length (directionAt b) (counted b DIRECTIONS 24) 0
-
-pub model-at : (b : List ℕ) (d : ℕ) → d < counted b DIRECTIONS 24 → modelOf (bookOf b) d ≡ directionAt b d .model
-unfolding bookOf directionsIn
-model-at b d l =
-    ap (λ (x : Direction). x .model) (rows-at (directionAt b) (counted b DIRECTIONS 24) 0 d (record { out = 0; into = 0; model = 0 }) l ∙ ap (directionAt b) (zero-add d))
 
 pub offered-at : (b : List ℕ) (i : ℕ) → i < 800 → getD (bookOf b .offered) i 0 ≡ cell b (OFFERED + i)
 unfolding bookOf offeredIn
@@ -103,3 +98,29 @@ known-profile b p hour e =
     let l : p < counted b PROFILES 8 = rw (profile-count b) at (leb-false (length (bookOf b .profiles)) p (or-left _ (hourUnknown (bookOf b) hour) e)) in
     let h = known-hour b hour (or-right (leb (length (bookOf b .profiles)) p) (hourUnknown (bookOf b) hour) e) in
     record { profile = omega arith; first = h .0; last = h .1 .0; row = (omega arith, (h .0, h .1 .1)) }
+
+-- ---- parties and rights
+
+pub party-count : (b : List ℕ) → length (bookOf b .parties) ≡ counted b PARTIES 64
+unfolding bookOf partiesIn
+party-count b = rows-length (partyAt b) (counted b PARTIES 64) 0
+
+pub access-at : (b : List ℕ) (p : ℕ) → p < counted b PARTIES 64 → party (bookOf b .parties) p .access ≡ cell b (PARTIES + 17 + p * 17)
+unfolding bookOf partiesIn
+access-at b p l =
+    ap (λ (x : Party). x .access) (rows-at (partyAt b) (counted b PARTIES 64) 0 p (record { code = []; access = 0 }) l ∙ ap (partyAt b) (zero-add p)) ∙ unfold partyAt in refl
+
+pub direction-at : (b : List ℕ) (d : ℕ) → d < counted b DIRECTIONS 24 → direction (bookOf b .directions) d ≡ directionAt b d
+unfolding bookOf directionsIn
+direction-at b d l = rows-at (directionAt b) (counted b DIRECTIONS 24) 0 d (record { out = 0; into = 0; model = 0 }) l ∙ ap (directionAt b) (zero-add d)
+
+pub model-at : (b : List ℕ) (d : ℕ) → d < counted b DIRECTIONS 24 → modelOf (bookOf b) d ≡ directionAt b d .model
+model-at b d l = ap (λ (x : Direction). x .model) (direction-at b d l)
+
+pub right-count : (b : List ℕ) → length (bookOf b .rights) ≡ counted b RIGHTS 512
+unfolding bookOf rightsIn
+right-count b = rows-length (rightAt b) (counted b RIGHTS 512) 0
+
+pub right-at : (b : List ℕ) (r : ℕ) → r < counted b RIGHTS 512 → right (bookOf b .rights) r ≡ rightAt b r
+unfolding bookOf rightsIn
+right-at b r l = rows-at (rightAt b) (counted b RIGHTS 512) 0 r _ l ∙ ap (rightAt b) (zero-add r)

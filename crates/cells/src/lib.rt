@@ -5,7 +5,7 @@ ghost use lib.ListN.{length, set, getD};
 ghost use lib.Seq.{sets};
 ghost use Rattle.rules.specs.Book.{place};
 ghost use Rattle.cells.specs.Layout.{CELLS, OFFERED, GRANTED};
-ghost use Rattle.cells.specs.View.{cell, Sound, Cells, counted, dayHoursIn, startedIn, weekdayIn, clockIn};
+ghost use Rattle.cells.specs.View.{cell, Sound, Cells, counted, dayHoursIn, directionAt, startedIn, weekdayIn, clockIn};
 ghost use Rattle.cells.specs.Stores.{clocked, emptied, withRow};
 
 // The count of hours of the day, its weekday, the time of the latest granted timed call, and not 0 after one.
@@ -93,6 +93,28 @@ pub fn count_in(book: &Book, table: usize, limit: u32) -> u32
 {
     let count = book[table];
     if count < limit { count } else { limit }
+}
+
+// The operators and the model of a direction.
+pub fn out_of(book: &Book, direction: u8) -> u32
+    requires { ⌜ direction < 24 ⌝ }
+    ensures { λ r. ⌜ r ≡ directionAt (now (book .entry)) direction .out ⌝ }
+{
+    book[DIRECTIONS + 1 + direction as usize * 3]
+}
+
+pub fn into_of(book: &Book, direction: u8) -> u32
+    requires { ⌜ direction < 24 ⌝ }
+    ensures { λ r. ⌜ r ≡ directionAt (now (book .entry)) direction .into ⌝ }
+{
+    book[DIRECTIONS + 2 + direction as usize * 3]
+}
+
+pub fn model_of(book: &Book, direction: u8) -> u32
+    requires { ⌜ direction < 24 ⌝ }
+    ensures { λ r. ⌜ r ≡ directionAt (now (book .entry)) direction .model ⌝ }
+{
+    book[DIRECTIONS + 3 + direction as usize * 3]
 }
 
 pub fn offered_at(book: &Book, row: u8, hour: u8) -> u32
