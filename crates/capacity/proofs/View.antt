@@ -11,7 +11,7 @@ use borrow.Author.Tests.{le-ltb}
 use lib.Dec.{ltb}
 use lib.ListN.{getD, length}
 use Rattle.rules.specs.Basics.{bit}
-use Rattle.rules.specs.Book.{Book, leftAt, ofProfile}
+use Rattle.rules.specs.Book.{leftAt, ofProfile}
 use Rattle.rules.specs.Bids.{Shortage, nothingShort, shortAt, orElse, profileShort, shortProfile, shortHour, shortage}
 use Rattle.cells.specs.Layout.{PROFILES}
 use Rattle.cells.specs.Loops.{each, rows}

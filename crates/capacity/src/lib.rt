@@ -1,6 +1,6 @@
 // The search for a shortage, and the granting of a bid's hours, in place.
 ghost use mathlib.Core.Path.{_≡_};
-ghost use Prim.Native.Nat.{ℕ, _+_, _*_, _-_, _≤_, _<_};
+ghost use Prim.Native.Nat.{_+_, _*_, _-_, _≤_, _<_};
 ghost use lib.Dec.{ltb};
 ghost use lib.ListN.{drop};
 ghost use Rattle.rules.specs.Basics.{bit, anyAbove};
@@ -9,7 +9,6 @@ ghost use Rattle.cells.specs.Layout.{CELLS, PROFILES};
 ghost use Rattle.cells.specs.View.{cell, bookOf, counted};
 ghost use Rattle.cells.specs.Bids.{added, grantedProfile, grantedHour, grantedHours, addedFive};
 ghost use Rattle.capacity.specs.Search.{Hours, profileShortIn, shortageIn};
-
 use cells::Book;
 use rules::Hour;
 use rules::Limit;

@@ -1,21 +1,21 @@
 -- What the stores of a granted call do to the book that the cells hold.
 -- Assumes nothing.
-use Prim.Native.Nat.{ℕ, zero, suc, _+_, _*_, _≤_, _<_, min}
+use Prim.Native.Nat.{ℕ, _+_, _*_, _≤_, _<_}
 use mathlib.Core.Path.{_≡_, refl, sym, ap, _∙_}
 use mathlib.Core.Logic.{_≢_}
-use mathlib.Core.Bool.{Bool, true, cond, not}
+use mathlib.Core.Bool.{cond}
 use mathlib.Core.List.{List, [], _∷_, _++_}
-use native.Mathlib.Nat.{le-trans, lt-of-lt-of-le, zero-add}
+use native.Mathlib.Nat.{zero-add}
 use native.Mathlib.Omega.{arith}
 use lib.Dec.{eqb, lit≤, lit<}
 use lib.ListN.{getD, set, length, length-set, replicate, length-replicate, getD-replicate}
 use lib.Seq.{getD-set-same, getD-set-other, ext-getD}
-use Rattle.rules.specs.Book.{Direction, Book, opened}
+use Rattle.rules.specs.Book.{opened}
 use Rattle.cells.specs.Layout.{CELLS, DIRECTIONS, PROFILES, PARTIES, OFFERED, GRANTED, MATCHED, RIGHTS, PAIRS}
 use Rattle.cells.specs.Loops.{rows}
-use Rattle.cells.specs.View.{cell, cellFrom, part, counted, dayHoursIn, weekdayIn, startedIn, clockIn, directionAt, directionsIn, profilesIn, partiesIn, offeredIn, grantedIn, matchedIn, rightsIn, pairsIn, bookOf}
+use Rattle.cells.specs.View.{cell, cellFrom, part, dayHoursIn, weekdayIn, directionsIn, profilesIn, partiesIn, offeredIn, grantedIn, matchedIn, rightsIn, pairsIn, bookOf}
 use Rattle.cells.specs.Stores.{clocked, emptied}
-use Rattle.cells.proofs.Rows.{rows-length, rows-at, rows-same, rows-more, rows-set}
+use Rattle.cells.proofs.Rows.{rows-length, rows-at, rows-set}
 use Rattle.cells.proofs.Regions.{Within, within-more, withOffered, withClock, only-offered, only-clock}
 
 -- ---- one cell

@@ -1,6 +1,6 @@
 -- Rows that are written cell by cell, and each table with a row more.
 -- Assumes nothing.
-use Prim.Native.Nat.{ℕ, zero, suc, _+_, _-_, _*_, _%_, _≤_, _<_, min}
+use Prim.Native.Nat.{ℕ, zero, suc, _+_, _-_, _*_, _%_, _≤_, _<_}
 use mathlib.Core.Path.{_≡_, refl, sym, ap, _∙_}
 use mathlib.Core.Logic.{_≢_}
 use mathlib.Core.List.{List, [], _∷_, _++_}
@@ -14,7 +14,7 @@ use Rattle.cells.specs.Loops.{rows}
 use Rattle.cells.specs.Layout.{CELLS, DIRECTIONS, PROFILES, PARTIES, OFFERED, RIGHTS, PAIRS}
 use Rattle.cells.specs.View.{cell, cellFrom, part, counted, directionAt, directionsIn, profilesIn, partyAt, partiesIn, rightAt, rightsIn, bookOf}
 use Rattle.cells.specs.Stores.{withRow}
-use Rattle.cells.proofs.Rows.{rows-length, rows-same, rows-more}
+use Rattle.cells.proofs.Rows.{rows-same, rows-more}
 use Rattle.cells.proofs.Regions.{Within, withDirections, withProfiles, withParties, withRights, only-directions, only-profiles, only-parties, only-rights, part-agree}
 use Rattle.cells.proofs.Stores.{part-at, part-length}
 

@@ -1,7 +1,7 @@
 -- What the code reads in cells, as the rules read it in the book.
 -- Assumes nothing.
-use Prim.Native.Nat.{ℕ, _+_, _*_, _-_, _≤_, _<_, min}
-use mathlib.Core.Path.{_≡_, refl, sym, ap, _∙_}
+use Prim.Native.Nat.{ℕ, _+_, _*_, _-_, _≤_, _<_}
+use mathlib.Core.Path.{_≡_, refl, ap, _∙_}
 use mathlib.Core.Bool.{Bool, true, false, cond, _||_}
 use mathlib.Core.List.{List, []}
 use native.Mathlib.Omega.{arith}
@@ -9,7 +9,7 @@ use native.Mathlib.Nat.{zero-add}
 use lib.Dec.{eqb, leb, ltb, lit≤}
 use borrow.Author.Tests.{leb-false, ltb-false}
 use lib.ListN.{length, getD}
-use Rattle.rules.specs.Book.{Book, Direction, Party, place, direction, party, right, leftAt, modelOf}
+use Rattle.rules.specs.Book.{Direction, Party, place, direction, party, right, leftAt, modelOf}
 use Rattle.rules.specs.Refusals.{order, firstOf, hourUnknown}
 use Rattle.cells.specs.Layout.{DIRECTIONS, PROFILES, PARTIES, OFFERED, GRANTED, RIGHTS}
 use Rattle.cells.specs.View.{cell, counted, dayHoursIn, directionAt, directionsIn, profilesIn, partyAt, partiesIn, offeredIn, grantedIn, rightAt, rightsIn, bookOf}

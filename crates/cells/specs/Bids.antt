@@ -1,7 +1,7 @@
 -- Granted MW and a right's MW after a bid: over cells, as the workers leave them, and the granted MW over the list of the rules. Sums are those of 32 bits.
 -- Assumes nothing.
 use Prim.Native.Nat.{ℕ, suc, _+_, _*_, _-_, _/_, _%_, _^_}
-use mathlib.Core.Bool.{Bool, cond}
+use mathlib.Core.Bool.{cond}
 use mathlib.Core.List.{List, [], _∷_}
 use lib.ListN.{getD, set}
 use Rattle.rules.specs.Basics.{bit}

@@ -1,11 +1,11 @@
 // The cells of a day book: one lent array with a table at each fixed place. Nothing is assumed of what the cells hold.
 ghost use mathlib.Core.Path.{_≡_};
-ghost use Prim.Native.Nat.{ℕ, _+_, _*_, _-_, _<_, _≤_};
+ghost use Prim.Native.Nat.{_+_, _*_, _-_, _<_, _≤_};
 ghost use lib.ListN.{length, set, getD};
 ghost use lib.Seq.{sets};
 ghost use Rattle.rules.specs.Book.{place};
 ghost use Rattle.cells.specs.Layout.{CELLS, OFFERED, GRANTED};
-ghost use Rattle.cells.specs.View.{cell, Sound, Cells, counted, dayHoursIn, directionAt, startedIn, weekdayIn, clockIn};
+ghost use Rattle.cells.specs.View.{Sound, Cells, counted, dayHoursIn, directionAt, startedIn, weekdayIn, clockIn};
 ghost use Rattle.cells.specs.Stores.{clocked, emptied, withRow};
 
 // The count of hours of the day, its weekday, the time of the latest granted timed call, and not 0 after one.

@@ -1,5 +1,5 @@
 use Rattle.cells.proofs.Turns.{told-true, told-false}
-use mathlib.Core.Path.{_≡_, refl, sym, _∙_}
+use mathlib.Core.Path.{_≡_, sym, _∙_}
 use Rattle.cells.specs.Bids.{grantedProfile}
 use borrow.Author.Needs.{needs}
 use Rattle.capacity.proofs.grant_profile.Statement.{statement}

@@ -1,4 +1,4 @@
-use mathlib.Core.Path.{sym, _∙_}
+use mathlib.Core.Path.{_∙_}
 use Rattle.capacity.specs.Search.{profileShortIn}
 use borrow.Author.Needs.{needs}
 use Rattle.capacity.proofs.profile_short.Statement.{statement}

@@ -1,6 +1,6 @@
 -- `cells::write_cells` meets its contract. The loop's invariant: what is left to write, from here, gives the whole.
 -- Assumes nothing.
-use mathlib.Core.Path.{_≡_, refl, sym, _∙_}
+use mathlib.Core.Path.{_≡_, sym, _∙_}
 use Prim.Native.Nat.{_≤_, _<_, _+_, _-_}
 use borrow.Author.Needs.{needs}
 use native.Mathlib.Omega.{arith}
