@@ -50,6 +50,10 @@ five-at at mw b k h u =
     (λ i a c e y. getD-set-other y (at + i) (at + k) _ 0 (λ q. e (omega arith)))
     u (omega arith) (omega arith)
 
+pub length-five : (at : ℕ) (mw b : List ℕ) → length (addedFive at mw b) ≡ length b
+unfolding addedFive addedNext
+length-five at mw b = run-same length (addedNext at mw) 5 0 b (λ k l u y. length-set y (at + k) _)
+
 module _ (b : List ℕ) (i : ℕ) (mw : List ℕ) (l : i < 512) (u : length b ≡ CELLS) (size : length mw ≡ 5) where
   abbrev at : ℕ
   at = RIGHTS + 4 + i * 8

@@ -97,6 +97,11 @@ module _ (table w limit : ℕ) (b : List ℕ) (n : ℕ) (row : List ℕ) (size :
         rw (m, e, rows-more (f made) n 0, zero-add n, here)
         (ap (λ (r : List A). r ++ (x ∷ [])) (rows-same (f made) (f b) n 0 (λ j p q. own b made j (row-before j (omega arith)))))
 
+-- no cell is added or taken away
+pub length-row : (table n : ℕ) (row b : List ℕ) → length (withRow table n row b) ≡ length b
+unfolding withRow
+length-row table n row b = simp (length-set, length-sets)
+
 -- ---- each row is read from its own cells
 
 direction-own : (c c′ : List ℕ) (i : ℕ) → ((k : ℕ) → k < 3 → cell c′ (DIRECTIONS + 1 + i * 3 + k) ≡ cell c (DIRECTIONS + 1 + i * 3 + k)) → directionAt c′ i ≡ directionAt c i
