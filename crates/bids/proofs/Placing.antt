@@ -24,7 +24,7 @@ use Rattle.cells.specs.Layout.{CELLS, PROFILES}
 use Rattle.cells.specs.View.{Cells, counted, dayHoursIn, directionAt, bookOf}
 use Rattle.cells.specs.Bids.{grantedHours}
 use Rattle.cells.specs.Stores.{clocked}
-use Rattle.cells.proofs.Regions.{withGranted, withRights, withClock}
+use Rattle.cells.specs.Updates.{withGranted, withRights, withClock}
 use Rattle.cells.proofs.Stores.{clock-set}
 use Rattle.cells.proofs.Grants.{bid-fitting}
 use Rattle.cells.proofs.Views.{hours-within}

@@ -15,7 +15,7 @@ use Rattle.cells.specs.Layout.{CELLS, RIGHTS}
 use Rattle.cells.specs.Loops.{each, rows}
 use Rattle.cells.specs.View.{cell, cellFrom, part, counted, rightAt, rightsIn, bookOf}
 use Rattle.cells.specs.Bids.{addedFive}
-use Rattle.cells.proofs.Regions.{withRights}
+use Rattle.cells.specs.Updates.{withRights}
 use Rattle.cells.proofs.Firsts.{placeOf, changed-there, changed-new, search-is, tryRow, right-from, raised, added-right}
 use Rattle.cells.proofs.Tables.{right-more, length-row}
 use Rattle.cells.proofs.Raised.{right-raised, length-five}

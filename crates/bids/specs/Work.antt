@@ -16,7 +16,7 @@ use Rattle.cells.specs.Layout.{CELLS, RIGHTS}
 use Rattle.cells.specs.Loops.{each}
 use Rattle.cells.specs.View.{cell, counted, rightAt, bookOf, Cells}
 use Rattle.cells.specs.Stores.{withRow}
-use Rattle.cells.proofs.Regions.{withRights}
+use Rattle.cells.specs.Updates.{withRights}
 use Rattle.capacity.specs.Search.{found}
 use Rattle.capacity.specs.declared.Search.{Search}
 use Rattle.answers.specs.declared.RightRead.{RightRead}

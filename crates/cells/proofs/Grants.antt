@@ -20,7 +20,8 @@ use Rattle.cells.specs.Layout.{CELLS, PROFILES, OFFERED, GRANTED, MATCHE
 use Rattle.cells.specs.Loops.{run}
 use Rattle.cells.specs.View.{Cells, cell, part, counted, profilesIn, grantedIn, bookOf}
 use Rattle.cells.specs.Bids.{added, grantedProfile, grantedHour, grantedNext, grantedHours, withBidMw}
-use Rattle.cells.proofs.Regions.{withGranted, only-granted}
+use Rattle.cells.proofs.Regions.{only-granted}
+use Rattle.cells.specs.Updates.{withGranted}
 use Rattle.cells.proofs.Stores.{part-at, part-length}
 use Rattle.cells.proofs.Views.{left-at}
 use Rattle.cells.proofs.Runs.{run-same, run-once, run-keeps}

@@ -13,7 +13,8 @@ use Rattle.cells.specs.Layout.{CELLS, RIGHTS}
 use Rattle.cells.specs.View.{cell, part, counted, rightAt, rightsIn, bookOf}
 use Rattle.cells.specs.Bids.{addedNext, addedFive}
 use Rattle.cells.proofs.Runs.{run-same, run-once}
-use Rattle.cells.proofs.Regions.{withRights, only-rights}
+use Rattle.cells.proofs.Regions.{only-rights}
+use Rattle.cells.specs.Updates.{withRights}
 use Rattle.cells.proofs.Stores.{part-at, part-length}
 use Rattle.cells.proofs.Tables.{right-own, right-same}
 use Rattle.cells.proofs.Firsts.{raised, table-set}

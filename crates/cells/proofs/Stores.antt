@@ -16,7 +16,8 @@ use Rattle.cells.specs.Loops.{rows}
 use Rattle.cells.specs.View.{cell, cellFrom, part, dayHoursIn, weekdayIn, directionsIn, profilesIn, partiesIn, offeredIn, grantedIn, matchedIn, rightsIn, pairsIn, bookOf}
 use Rattle.cells.specs.Stores.{clocked, emptied}
 use Rattle.cells.proofs.Rows.{rows-length, rows-at, rows-set}
-use Rattle.cells.proofs.Regions.{Within, within-more, withOffered, withClock, only-offered, only-clock}
+use Rattle.cells.proofs.Regions.{Within, within-more, only-offered, only-clock}
+use Rattle.cells.specs.Updates.{withOffered, withClock}
 
 -- ---- one cell
 

@@ -15,7 +15,8 @@ use Rattle.cells.specs.Layout.{CELLS, DIRECTIONS, PROFILES, PARTIES, OFF
 use Rattle.cells.specs.View.{cell, cellFrom, part, counted, directionAt, directionsIn, profilesIn, partyAt, partiesIn, rightAt, rightsIn, bookOf}
 use Rattle.cells.specs.Stores.{withRow}
 use Rattle.cells.proofs.Rows.{rows-same, rows-more}
-use Rattle.cells.proofs.Regions.{Within, withDirections, withProfiles, withParties, withRights, only-directions, only-profiles, only-parties, only-rights, part-agree}
+use Rattle.cells.proofs.Regions.{Within, only-directions, only-profiles, only-parties, only-rights, part-agree}
+use Rattle.cells.specs.Updates.{withDirections, withProfiles, withParties, withRights}
 use Rattle.cells.proofs.Stores.{part-at, part-length}
 
 -- ---- a loop that writes a row

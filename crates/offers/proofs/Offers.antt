@@ -20,7 +20,7 @@ use Rattle.rules.proofs.Bools.{or-true}
 use Rattle.rules.proofs.Decisions.{is-granted, fails}
 use Rattle.cells.specs.Layout.{OFFERED}
 use Rattle.cells.specs.View.{bookOf}
-use Rattle.cells.proofs.Regions.{withOffered, withClock}
+use Rattle.cells.specs.Updates.{withOffered, withClock}
 use Rattle.cells.proofs.Stores.{offered-set, clock-set}
 use Rattle.cells.proofs.Views.{Known, KnownProfile, known, known-profile, slot, granted-place, left-at}
 use Rattle.answers.specs.Promises.{Answers, saidLeft}

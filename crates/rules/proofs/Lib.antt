@@ -13,3 +13,6 @@ pub mod Matched
 pub mod Matching
 pub mod Demand
 pub mod Cases
+pub mod Bits
+pub mod Records
+pub mod Marks

@@ -1,0 +1,5 @@
+pub mod Marks
+pub mod Fields
+pub mod Turns
+pub mod Whole
+pub mod RoundTrip

@@ -1,0 +1,123 @@
+-- One turn of each loop: what is left to do from a field or a byte on.
+-- Assumes nothing.
+use Prim.Native.Nat.{ℕ, suc, _+_, _*_, _-_, _/_, _%_, _≤_, _<_}
+use mathlib.Core.Path.{_≡_, refl, sym, _∙_}
+use mathlib.Core.Bool.{Bool, true, false, cond, _||_, _&&_, not}
+use mathlib.Core.List.{List, [], _∷_, _++_}
+use native.Mathlib.Omega.{arith}
+use native.Mathlib.Numerals.{add-one}
+use native.Mathlib.Nat.{add-zero, pow-le-pow-right}
+use mir.Val.{boolByte}
+use lib.Dec.{eqb}
+use lib.ListN.{length, getD, take, drop, set, length-append, length-drop, drop-of-length-le}
+use lib.Pow.{pow-mono}
+use lib.Seq.{drop-cons, append-snoc, take-suc-set, sets}
+use Rattle.rules.specs.Basics.{bit, mapOf, has}
+use Rattle.rules.specs.Records.{Kind, widths, stands, standing, foreign, bytesOf, body, numberAt, taking, fieldsAt, endAt}
+use Rattle.rules.proofs.Bits.{map-below}
+use Rattle.rules.proofs.Records.{bytes-length, number-below, standing-length}
+use Rattle.record.specs.Steps.{Size}
+
+drop-next : (xs : List ℕ) (i : ℕ) → i < length xs → drop i xs ≡ getD xs i 0 ∷ drop (i + 1) xs
+drop-next xs i l = rw (add-one i) (drop-cons xs i 0 l)
+
+-- ---- a number, byte by byte
+
+pub number-next : (w left at : ℕ) (s : List ℕ) → 0 < left → left ≤ w
+    → numberAt (w - (left - 1)) s (at + (left - 1)) ≡ getD s (at + (left - 1)) 0 + 256 * numberAt (w - left) s (at + left)
+unfolding numberAt
+number-next w left at s p l =
+    let e : w - (left - 1) ≡ suc (w - left) = omega arith in
+    let e′ : at + (left - 1) + 1 ≡ at + left = omega arith in
+    rw (e, e′)
+
+pub bytes-next : (b : List ℕ) (at i w v : ℕ) → i < w
+    → sets b (at + i) (bytesOf (w - i) v) ≡ sets (set b (at + i) (v % 256)) (at + (i + 1)) (bytesOf (w - (i + 1)) (v / 256))
+unfolding bytesOf
+bytes-next b at i w v l =
+    let e : w - i ≡ suc (w - (i + 1)) = omega arith in
+    let e′ : at + (i + 1) ≡ suc (at + i) = omega arith in
+    rw (e, e′)
+
+-- in 32 bits there is room for one more byte
+pub number-room : (w left at : ℕ) (s : List ℕ) → ((i : ℕ) → getD s i 0 < 256) → 0 < left → w ≤ 4 → numberAt (w - left) s (at + left) < 16777216
+number-room w left at s b p l =
+    omega (arith, number-below (w - left) s (at + left) b, pow-le-pow-right {n = 256} (omega arith) {i = w - left} {j = 3} (omega arith))
+
+-- ---- the fields, one by one
+
+pub foreign-next : (k : Kind) (vs : List ℕ) (i : ℕ) → i < length vs
+    → foreign k i (drop i vs) ≡ ((not (has i (k .always) || has i (k .mws)) && not (eqb (getD vs i 0) 0)) || foreign k (i + 1) (drop (i + 1) vs))
+unfolding foreign
+foreign-next k vs i l = rw (drop-next vs i l, add-one i)
+
+one-if : (p : Bool) → boolByte p ≡ cond p 1 0
+one-if true = refl
+one-if false = refl
+
+pub map-next : (k : Kind) (vs : List ℕ) (i : ℕ) (p : Bool) → 0 < i → i ≤ length vs → p ≡ stands k (i - 1) (getD vs (i - 1) 0)
+    → boolByte p + 2 * mapOf (standing k i (drop i vs)) ≡ mapOf (standing k (i - 1) (drop (i - 1) vs))
+unfolding mapOf standing
+map-next k vs i p l m e =
+    let n : i - 1 + 1 ≡ i = omega arith in
+    rw (drop-next vs (i - 1) (omega arith), n, one-if p, e, ← add-one (i - 1), n)
+
+pub one-most : (p : Bool) → boolByte p ≤ 1
+one-most true = omega arith
+one-most false = omega arith
+
+pub map-fits : (k : Kind) (vs : List ℕ) (i : ℕ) → length vs ≡ 15 → mapOf (standing k i (drop i vs)) < 32768
+map-fits k vs i n =
+    let most : length (standing k i (drop i vs)) ≤ 15 = rw (standing-length k i (drop i vs), length-drop i vs) (omega arith) in
+    omega (arith, map-below (standing k i (drop i vs)), pow-mono most)
+
+-- ---- the fields and their widths
+
+fifteen : length widths ≡ 15
+unfolding widths
+fifteen = refl
+
+pub widths-done : (i : ℕ) → 15 ≤ i → drop i widths ≡ []
+widths-done i l = drop-of-length-le widths {i = i} (omega (arith, fifteen))
+
+-- the bytes of a field that stands, or none
+field-bytes : (p : Bool) (w v : ℕ) → cond p (bytesOf w v) [] ≡ bytesOf (taking w p) v
+unfolding bytesOf
+field-bytes true w v = refl
+field-bytes false w v = refl
+
+-- the number of a field that stands, or 0
+field-number : (p : Bool) (w : ℕ) (s : List ℕ) (at : ℕ) → cond p (numberAt w s at) 0 ≡ numberAt (taking w p) s at
+unfolding numberAt
+field-number true w s at = refl
+field-number false w s at = refl
+
+pub sets-append : (b : List ℕ) (at : ℕ) (xs ys : List ℕ) → sets b at (xs ++ ys) ≡ sets (sets b at xs) (at + length xs) ys
+sets-append b at [] ys = rw (add-zero at)
+sets-append b at (x ∷ xs) ys = let e : at + length (x ∷ xs) ≡ suc at + length xs = omega arith in rw e (sets-append (set b at x) (suc at) xs ys)
+
+module _ (k : Kind) (vs : List ℕ) (i : ℕ) {p : Bool} {n : ℕ} (m : length vs ≡ 15) (l : i < 15) (e : p ≡ stands k i (getD vs i 0)) (z : Size i p n) where
+  body-next : body k i (drop i widths) (drop i vs) ≡ bytesOf n (getD vs i 0) ++ body k (i + 1) (drop (i + 1) widths) (drop (i + 1) vs)
+  unfolding body
+  body-next =
+      rw (drop-next widths i (omega (arith, fifteen)), drop-next vs i (omega arith), ← e, field-bytes p (getD widths i 0) (getD vs i 0), z .taken, add-one i)
+
+  pub length-next : length (body k i (drop i widths) (drop i vs)) ≡ n + length (body k (i + 1) (drop (i + 1) widths) (drop (i + 1) vs))
+  length-next = rw (body-next, length-append, bytes-length n (getD vs i 0))
+
+  pub sets-next : (b : List ℕ) (at : ℕ)
+      → sets b at (body k i (drop i widths) (drop i vs)) ≡ sets (sets b at (bytesOf n (getD vs i 0))) (at + n) (body k (i + 1) (drop (i + 1) widths) (drop (i + 1) vs))
+  sets-next b at =
+      rw body-next (sets-append b at (bytesOf n (getD vs i 0)) (body k (i + 1) (drop (i + 1) widths) (drop (i + 1) vs)) ∙ rw (bytes-length n (getD vs i 0)))
+
+module _ (map i at : ℕ) {p : Bool} {n : ℕ} (l : i < 15) (e : p ≡ bit map i) (z : Size i p n) where
+  pub fields-next : (s : List ℕ) → fieldsAt (drop i widths) i map s at ≡ numberAt n s at ∷ fieldsAt (drop (i + 1) widths) (i + 1) map s (at + n)
+  unfolding fieldsAt
+  fields-next s = rw (drop-next widths i (omega (arith, fifteen)), ← e, field-number p (getD widths i 0) s at, z .taken, add-one i)
+
+  pub end-next : endAt (drop i widths) i map at ≡ endAt (drop (i + 1) widths) (i + 1) map (at + n)
+  unfolding endAt
+  end-next = rw (z .taken, e, drop-next widths i (omega (arith, fifteen)), add-one i)
+
+pub take-set : (vs : List ℕ) (i v : ℕ) (rest : List ℕ) → i < length vs → take i vs ++ (v ∷ rest) ≡ take (i + 1) (set vs i v) ++ rest
+take-set vs i v rest l = rw (add-one i, take-suc-set vs i v l) (sym (append-snoc (take i vs) v rest))

@@ -1,0 +1,33 @@
+-- What `read` and `write` promise.
+-- Assumes nothing.
+use Prim.Native.Nat.{ℕ, _<_, _^_}
+use mathlib.Core.Path.{_≡_}
+use mathlib.Core.List.{List}
+use lib.ListN.{length, getD}
+use Rattle.rules.specs.Said.{said}
+use Rattle.rules.specs.Records.{widths, fieldsOf, RecordReply, reading, writing}
+use Rattle.rules.specs.declared.Answer.{Answer}
+use Rattle.rules.specs.declared.CallRecord.{CallRecord}
+use Rattle.record.specs.declared.RecordRead.{RecordRead}
+
+-- each value fits the width of its field
+abbrev pub FieldsFit : List ℕ → Type 0
+FieldsFit vs = (i : ℕ) → getD vs i 0 < 256 ^ getD widths i 0
+
+-- what the types of a call's fields say of their values
+pub record CallFits (c : CallRecord) : Type 0 where
+  pub hours : length (c .mw) ≡ 5
+  pub fields : FieldsFit (fieldsOf c)
+
+-- the number of the answer, the length and the call, as document 01 has them
+abbrev pub readSaid : RecordRead → RecordReply
+readSaid r = record { number = said (r .answer) .number; length = r .length; call = r .call }
+
+pub record Reads (bytes : List ℕ) (r : RecordRead) : Type 0 where
+  pub bytes-fit : (i : ℕ) → getD bytes i 0 < 256
+  pub reply : readSaid r ≡ reading bytes
+
+pub record Writes (call : CallRecord) (before : List ℕ) (r : Answer) (after : List ℕ) : Type 0 where
+  pub call-fits : CallFits call
+  pub reply : said r ≡ writing call before .reply
+  pub buffer : after ≡ writing call before .buffer
