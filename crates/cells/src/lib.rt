@@ -8,33 +8,37 @@ ghost use Rattle.cells.specs.Layout.{CELLS, OFFERED, GRANTED};
 ghost use Rattle.cells.specs.View.{Sound, Cells, counted, dayHoursIn, directionAt, startedIn, weekdayIn, clockIn};
 ghost use Rattle.cells.specs.Stores.{clocked, emptied, withRow};
 
-// The count of hours of the day, its weekday, the time of the latest granted timed call, and not 0 after one.
+// The count of hours of the day.
 const HOURS: usize = 0;
 
+// Monday 1 to Sunday 7.
 const WEEKDAY: usize = 1;
 
+// The time of the latest granted timed call.
 const CLOCK: usize = 2;
 
+// Not 0 after a granted timed call.
 const STARTED: usize = 3;
 
-// A table is a count and then its rows. 24 rows of 3: out operator, in operator, model.
+// A count, and 24 rows of 3: out operator, in operator, model.
 pub const DIRECTIONS: usize = 4;
 
-// 8 maps.
+// A count, and 8 maps.
 pub const PROFILES: usize = 77;
 
-// 64 rows of 17: the 16 bytes of the code, access map.
+// A count, and 64 rows of 17: the 16 bytes of the code, access map.
 pub const PARTIES: usize = 86;
 
-// 32 rows of 25 hours, with no count: rows 0 to 23 for the directions, 24 to 31 for the profiles.
+// The offers: 32 rows of 25 hours, rows 0 to 23 for the directions, 24 to 31 for the profiles.
 pub const OFFERED_MW: usize = 1175;
 
+// The granted MW, in rows as those of the offers.
 pub const GRANTED_MW: usize = 1975;
 
-// 512 rows of 8: holder, direction, session, five MW. Before it 24 rows of 25 sessions: 1 where matched.
+// A count, and 512 rows of 8: holder, direction, session, five MW. The cells before it, from 2775 on, are for matched sessions.
 pub const RIGHTS: usize = 3375;
 
-// Behind the rights 512 rows of 13 for the pairs, and no more.
+// The cells behind the rights, from 7472 on, are for pairs.
 pub type Book = [u32; 14129];
 
 // Each cell is a number of 32 bits.

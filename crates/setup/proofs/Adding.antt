@@ -23,7 +23,7 @@ use Rattle.cells.specs.Stores.{withRow}
 use Rattle.cells.proofs.Rows.{rows-length}
 use Rattle.cells.specs.Updates.{withDirections, withProfiles, withParties}
 use Rattle.cells.proofs.Tables.{direction-more, profile-more, party-more}
-use Rattle.cells.proofs.Views.{direction-count, profile-count}
+use Rattle.cells.proofs.Views.{direction-count, profile-count, party-count}
 use Rattle.answers.specs.Promises.{Judged, Answers}
 use Rattle.answers.specs.declared.Verdict.{Verdict}
 use Rattle.answers.specs.declared.Verdict.the-variants.{Clear, No}
@@ -87,10 +87,6 @@ unfolding effect isTimed clockAfter directionsAfter profilesAfter partiesAfter o
 effects b =
     let same = or-false (b .started) in
     record { direction = λ o i m. rw same; profile = λ map. rw same; party = λ code access. rw same }
-
-pub party-count : (b : List ℕ) → length (bookOf b .parties) ≡ counted b PARTIES 64
-unfolding bookOf partiesIn
-party-count b = rows-length (partyAt b) (counted b PARTIES 64) 0
 
 pub adds-direction : (b : List ℕ) (o i m : ℕ) → Adds b (AddDirection o i m) DIRECTIONS 24 (o ∷ i ∷ m ∷ [])
 unfolding refuses full detail

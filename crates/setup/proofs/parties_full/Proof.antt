@@ -1,6 +1,6 @@
 -- `setup::parties_full` meets its contract.
 -- Assumes nothing.
-use Rattle.setup.proofs.Adding.{party-count}
+use Rattle.cells.proofs.Views.{party-count}
 use borrow.Author.Needs.{needs}
 use Rattle.setup.proofs.parties_full.Statement.{statement}
 use Rattle.setup.proofs.parties_full.Tie as tie
