@@ -1,0 +1,58 @@
+// What the calls answer: a verdict before anything is stored, and the replies of the reads. What each call promises stands in specs/.
+ghost use mathlib.Core.Path.{_≡_};
+ghost use Prim.Native.Nat.{_-_};
+ghost use lib.Dec.{ltb};
+ghost use Rattle.rules.specs.Refusals.{directionUnknown, hourUnknown};
+ghost use Rattle.cells.specs.View.{bookOf};
+use cells::Book;
+use rules::Answer;
+use rules::Session;
+
+// What the tests of a call find: nothing against it, or the refusal.
+pub enum Verdict {
+    Clear,
+    No(Answer),
+}
+
+// Capacity left.
+pub struct LeftRead {
+    pub answer: Answer,
+    pub left: u32,
+}
+
+// A right; zeros where refused.
+pub struct RightRead {
+    pub answer: Answer,
+    pub holder: u8,
+    pub direction: u8,
+    pub session: Session,
+    pub mw: [u32; 5],
+}
+
+// The difference, or 0.
+pub fn less(a: u32, b: u32) -> u32
+    ensures { λ r. ⌜ r ≡ a - b ⌝ }
+{
+    if b <= a { a - b } else { 0 }
+}
+
+// ---- tests that several calls share
+
+// Earlier than the latest granted timed call.
+pub fn is_early(book: &Book, time: u32) -> bool
+    ensures { λ r. ⌜ r ≡ ltb time (bookOf (now (book .entry)) .clock) ⌝ }
+{
+    time < cells::clock(book)
+}
+
+pub fn direction_unknown(book: &Book, direction: u8) -> bool
+    ensures { λ r. ⌜ r ≡ directionUnknown (bookOf (now (book .entry))) direction ⌝ }
+{
+    cells::count_in(book, cells::DIRECTIONS, 24) <= direction as u32
+}
+
+pub fn hour_unknown(book: &Book, hour: u8) -> bool
+    ensures { λ r. ⌜ r ≡ hourUnknown (bookOf (now (book .entry))) hour ⌝ }
+{
+    hour < 1 || cells::hours(book) < hour
+}

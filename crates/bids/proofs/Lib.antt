@@ -1,0 +1,4 @@
+pub mod Rights
+pub mod Tests
+pub mod Verdicts
+pub mod Placing

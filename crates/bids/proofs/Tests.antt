@@ -1,0 +1,98 @@
+-- What the tests of a bid find in cells, as the rules find it in the book.
+-- Assumes nothing.
+use Prim.Native.Nat.{ℕ, _+_, _-_, _/_, _%_, _^_, _≤_, _<_}
+use mathlib.Core.Path.{_≡_, refl, sym, ap, _∙_}
+use mathlib.Core.Bool.{Bool, true, false, cond, not}
+use mathlib.Core.List.{List}
+use native.Mathlib.Nat.{le-trans, div-eq-of-lt}
+use native.Mathlib.Omega.{arith}
+use lib.Dec.{eqb, leb}
+use lib.ListN.{length, getD, List·getD-eq-default}
+use lib.Pow.{pow-mono}
+use borrow.Author.Tests.{leb-false, le-leb, lt-leb}
+use Rattle.rules.specs.Basics.{bit, noMw}
+use Rattle.rules.specs.Sessions.{sessionThere, firstHour, hoursIn, firstHourThere}
+use Rattle.rules.specs.Book.{Right, right}
+use Rattle.rules.specs.Bids.{shortage}
+use Rattle.rules.specs.Refusals.{order, firstOf, directionUnknown, sessionUnknown}
+use Rattle.rules.specs.Reads.{rightReadRefuses, readRight}
+use Rattle.rules.specs.declared.Answer.the-variants.{Unknown}
+use Rattle.rules.proofs.Sessions.{hours-there}
+use Rattle.cells.specs.Layout.{DIRECTIONS, RIGHTS}
+use Rattle.cells.specs.View.{counted, dayHoursIn, directionAt, bookOf}
+use Rattle.cells.proofs.Views.{direction-count, model-at, hours-within, right-count, right-at}
+use Rattle.capacity.specs.Search.{Hours, shortageIn, found}
+use Rattle.capacity.specs.declared.Search.{Search}
+use Rattle.capacity.proofs.View.{shortage-view}
+use Rattle.answers.specs.Promises.{saidRight, ReadsRight}
+use Rattle.bids.specs.Work.{Session-known, Searched, rightIn}
+
+-- a number of 32 bits has no bit past them
+pub far-bit : (map i : ℕ) → map < 2 ^ 32 → 32 ≤ i → bit map i ≡ false
+unfolding bit
+far-bit map i l h = rw (div-eq-of-lt (le-trans l (pow-mono h)))
+
+-- ---- the direction and the session
+
+pub known-direction : (b : List ℕ) (d : ℕ) → directionUnknown (bookOf b) d ≡ false → d < counted b DIRECTIONS 24
+known-direction b d e = rw (direction-count b) at (leb-false (length (bookOf b .directions)) d e)
+
+pub session-is : (b : List ℕ) (d s n m : ℕ) → n ≡ dayHoursIn b → m ≡ directionAt b d .model → d < counted b DIRECTIONS 24
+    → not (sessionThere n m s) ≡ sessionUnknown (bookOf b) d s
+unfolding bookOf
+session-is b d s n m p q l = rw (p, q, model-at b d l)
+
+pub hours-few : (n model s : ℕ) → n ≤ 25 → hoursIn n model s ≤ 5
+unfolding hoursIn
+hours-few n model s h = go (eqb model 1) (leb s 1)
+  where
+    go : (t u : Bool) → cond t 1 (cond u (4 + n - 24) 4) ≤ 5
+    go true u = omega arith
+    go false true = omega arith
+    go false false = omega arith
+
+hours-some : (n model s : ℕ) → 23 ≤ n → 1 ≤ hoursIn n model s
+unfolding hoursIn
+hours-some n model s h = go (eqb model 1) (leb s 1)
+  where
+    go : (t u : Bool) → 1 ≤ cond t 1 (cond u (4 + n - 24) 4)
+    go true u = omega arith
+    go false true = omega arith
+    go false false = omega arith
+
+-- the hours of a session that is there, from the first on
+pub session-hours : (n model d s first count : ℕ) → (23 ≤ n) × (n ≤ 25) → d < 24 → sessionThere n model s ≡ true
+    → first ≡ firstHourThere n model s → count ≡ hoursIn n model s → Hours d first count
+unfolding firstHourThere
+session-hours n model d s first count w row t f c =
+    let some = hours-some n model s (w .0) in
+    let few = hours-few n model s (w .1) in
+    let one = hours-there n model s 0 (w .0) (w .1) t some in
+    let last = hours-there n model s (hoursIn n model s - 1) (w .0) (w .1) t (omega arith) in
+    let e : first ≡ firstHour n model s = f ∙ rw t in
+    record { direction = row; few = omega arith; first = omega (arith, one .0); last = omega (arith, last .1, w .1) }
+
+-- ---- the search for a shortage
+
+pub searched : (b : List ℕ) (n model d s first count : ℕ) (mw : List ℕ) (r : Search) → n ≡ dayHoursIn b → length mw ≡ 5 → Session-known b model d s mw
+    → first ≡ firstHourThere n model s → count ≡ hoursIn n model s → r ≡ shortageIn b d first count mw → Searched b model d s mw r
+unfolding bookOf firstHourThere
+searched b n model d s first count mw r p size k f c e =
+    let few = hours-few n model s (rw p (hours-within b .1)) in
+    let h : first ≡ firstHour (dayHoursIn b) model s = f ∙ rw (p, k .is-there) in
+    let u : count ≤ length mw = omega arith in
+    let z : (j : ℕ) → count ≤ j → getD mw j 0 ≡ 0 = λ j l. k .lacking j (rw (← p, ← c) l) in
+    record { found-is = ap found e ∙ shortage-view b d first count mw u z ∙ ap (λ (x : ℕ). shortage (bookOf b) d x mw) h }
+
+-- ---- the read of a right
+
+pub right-unknown : (b : List ℕ) (r : ℕ) → counted b RIGHTS 512 ≤ r
+    → saidRight (record { answer = Unknown; holder = 0; direction = 0; session = record { 0 = 0 }; mw = noMw }) ≡ readRight (bookOf b) r
+unfolding readRight rightReadRefuses firstOf order
+right-unknown b r l =
+    let m : length (bookOf b .rights) ≤ r = rw (right-count b) l in
+    rw (le-leb (length (bookOf b .rights)) r m, List·getD-eq-default (bookOf b .rights) (record { holder = 0; direction = 0; session = 0; mw = noMw }) {n = r} m)
+
+pub right-known : (b : List ℕ) (r : ℕ) → r < counted b RIGHTS 512 → saidRight (rightIn b r) ≡ readRight (bookOf b) r
+unfolding readRight rightReadRefuses firstOf order rightIn
+right-known b r l = rw (lt-leb (length (bookOf b .rights)) r (rw (right-count b) l), right-at b r l)

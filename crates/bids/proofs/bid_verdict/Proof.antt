@@ -1,0 +1,209 @@
+-- `bids::bid_verdict` meets its contract: each test passed leaves fewer numbers, and one that holds is the first.
+-- Assumes nothing.
+use Prim.Native.Nat.{ℕ}
+use mathlib.Core.Path.{_≡_, refl, subst, _∙_}
+use mathlib.Core.List.{List, [], _∷_}
+use denote.Ref.{now}
+use Rattle.rules.specs.Calls.{Bid}
+use Rattle.rules.specs.Refusals.{refuses, field, clock, unknown, gate, hoursLacking, wrongHours, full, shortageOf}
+use Rattle.rules.specs.Details.{refusal}
+use Rattle.rules.specs.declared.Answer.the-variants.{Field, Clock, Unknown, Gate, Hours, Access, Full, Short}
+use Rattle.cells.specs.View.{bookOf}
+use Rattle.capacity.specs.declared.Search.{Search}
+use Rattle.answers.specs.Promises.{Judged}
+use Rattle.answers.proofs.Laws.{Left, pass, refuse, none-left, told}
+use Rattle.bids.proofs.Verdicts.{bid-left, KnownBid, known-bid, access-is, session-known, verdictOf, shortage-is, judged}
+use borrow.Author.Needs.{needs}
+use Rattle.bids.proofs.bid_verdict.Statement.{statement}
+use Rattle.bids.proofs.bid_verdict.Tie as tie
+use Rattle.bids.proofs.bid_verdict.Reads as reads
+use Rattle.bids.proofs.bid_verdict.Lts as lts
+use Rattle.answers.proofs.is_early.Reads as is-early-reads
+use Rattle.bids.proofs.bid_field.Reads as bid-field-reads
+use Rattle.bids.proofs.bid_shortage.Reads as bid-shortage-reads
+use Rattle.bids.proofs.bid_unknown.Reads as bid-unknown-reads
+use Rattle.bids.proofs.no_access.Reads as no-access-reads
+use Rattle.bids.proofs.outside.Reads as outside-reads
+use Rattle.bids.proofs.rights_full.Reads as rights-full-reads
+use Rattle.bids.proofs.wrong_hours.Reads as wrong-hours-reads
+use Rattle.cells.proofs.model_of.Reads as model-of-reads
+
+-- the numbers that are left to test
+abbrev To : tie.Start → List ℕ → Type 0
+To s ns = Left (bookOf (now (s .args .book))) (Bid (s .args .time) (s .args .party) (s .args .direction) (s .args .session .0) (s .args .mw)) ns
+
+start : (c : tie.Start) → To c (3 ∷ 5 ∷ 6 ∷ 8 ∷ 9 ∷ 10 ∷ 13 ∷ 15 ∷ [])
+start c = bid-left _ _ _ _ _ _
+
+after1 : (c : tie.Else1) → To (c .before .before) (5 ∷ 6 ∷ 8 ∷ 9 ∷ 10 ∷ 13 ∷ 15 ∷ [])
+unfolding refuses field
+after1 c = pass (start (c .before .before)) (told (c .before .bid-field .ensures) (c .if1 .left))
+
+after2 : (c : tie.Else2) → To (c .before .before .before .before) (6 ∷ 8 ∷ 9 ∷ 10 ∷ 13 ∷ 15 ∷ [])
+unfolding refuses clock
+after2 c = pass (after1 (c .before .before)) (told (c .before .is-early .ensures) (c .if2 .left))
+
+after3 : (c : tie.Else3) → To (c .before .before .before .before .before .before) (8 ∷ 9 ∷ 10 ∷ 13 ∷ 15 ∷ [])
+unfolding refuses unknown
+after3 c = pass (after2 (c .before .before)) (told (c .before .bid-unknown .ensures) (c .if3 .left))
+
+-- party, direction and session are there
+knows : (c : tie.Else3) → let a = c .before .before .before .before .before .before .args in KnownBid (now (a .book)) (a .party) (a .direction) (a .session .0)
+knows c = known-bid _ _ _ _ (told (c .before .bid-unknown .ensures) (c .if3 .left))
+
+-- the model read from the cells is that of the rules
+after4 : (c : tie.Else4) → To (c .before .before .before .before .before .before .before .before .before) (9 ∷ 10 ∷ 13 ∷ 15 ∷ [])
+unfolding refuses gate
+after4 c =
+    let m = c .before .before in
+    pass (after3 (m .before)) (rw (knows (m .before) .model-is, ← m .model-of .ensures) (told (c .before .outside .ensures) (c .if4 .left)))
+
+after5 : (c : tie.Else5) → To (c .before .before .before .before .before .before .before .before .before .before .before) (10 ∷ 13 ∷ 15 ∷ [])
+unfolding refuses wrongHours hoursLacking
+after5 c =
+    let m = c .before .before .before .before in
+    pass (after4 (c .before .before)) (rw (knows (m .before) .model-is, ← m .model-of .ensures) (told (c .before .wrong-hours .ensures) (c .if5 .left)))
+
+after6 : (c : tie.Else6) → To (c .before .before .before .before .before .before .before .before .before .before .before .before .before) (13 ∷ 15 ∷ [])
+unfolding refuses
+after6 c =
+    let k = knows (c .before .before .before .before .before .before .before) in
+    pass (after5 (c .before .before)) (access-is _ _ _ _ _ _ k ∙ told (c .before .no-access .ensures) (c .if6 .left))
+
+after7 : (c : tie.Else7) → To (c .before .before .before .before .before .before .before .before .before .before .before .before .before .before .before) (15 ∷ [])
+unfolding refuses full
+after7 c =
+    let m = c .before .before .before .before .before .before .before .before in
+    pass (after6 (c .before .before)) (rw (knows (m .before) .model-is, ← m .model-of .ensures) (told (c .before .rights-full .ensures) (c .if7 .left)))
+
+-- what the search found decides
+abbrev Says : tie.Start → Search → Type 0
+Says s r = Judged (bookOf (now (s .args .book))) (Bid (s .args .time) (s .args .party) (s .args .direction) (s .args .session .0) (s .args .mw)) (verdictOf r)
+
+judge : (c : tie.After-bid-shortage) → Says (c .before .before .before .before .before .before .before .before .before .before .before .before .before .before .before .before) (c .bid-shortage .result)
+judge c =
+    let a = c .before .before .before .before .before .before .before .before .before .before .before .before .before .before .before .before .args in
+    let m = c .before .before .before .before .before .before .before .before .before in
+    judged _ _ (c .bid-shortage .result) (after7 (c .before)) (shortage-is _ (a .time) _ _ _ _ _ _ (knows (m .before)) (m .model-of .ensures) (c .bid-shortage .ensures))
+
+-- src/lib.rt:159:8
+bid-field-requires : tie.Need-bid-field-requires
+bid-field-requires c κs = search needs
+
+-- src/lib.rt:160:9
+returns : tie.Need-returns
+unfolding refuses field refusal
+returns c = refuse Field (start (c .before .before)) (told (c .before .bid-field .ensures) (c .if1 .taken)) refl refl
+
+-- src/lib.rt:162:8
+is-early-requires : tie.Need-is-early-requires
+is-early-requires c κs = search needs
+
+-- src/lib.rt:163:9
+returns-2 : tie.Need-returns-2
+unfolding refuses clock refusal
+returns-2 c = refuse Clock (after1 (c .before .before)) (told (c .before .is-early .ensures) (c .if2 .taken)) refl refl
+
+-- src/lib.rt:165:8
+bid-unknown-requires : tie.Need-bid-unknown-requires
+bid-unknown-requires c κs = search needs
+
+-- src/lib.rt:166:9
+returns-3 : tie.Need-returns-3
+unfolding refuses unknown refusal
+returns-3 c = refuse Unknown (after2 (c .before .before)) (told (c .before .bid-unknown .ensures) (c .if3 .taken)) refl refl
+
+-- src/lib.rt:168:9
+model-of-requires : tie.Need-model-of-requires
+model-of-requires c κs = knows c .rows .1
+
+-- src/lib.rt:169:8
+outside-requires : tie.Need-outside-requires
+outside-requires c κs = search needs
+
+-- src/lib.rt:170:9
+returns-4 : tie.Need-returns-4
+unfolding refuses gate refusal
+returns-4 c = 
+    let m = c .before .before in
+    refuse Gate (after3 (m .before)) (rw (knows (m .before) .model-is, ← m .model-of .ensures) (told (c .before .outside .ensures) (c .if4 .taken))) refl refl
+
+-- src/lib.rt:172:8
+wrong-hours-requires : tie.Need-wrong-hours-requires
+wrong-hours-requires c κs = search needs
+
+-- src/lib.rt:173:9
+returns-5 : tie.Need-returns-5
+unfolding refuses wrongHours hoursLacking refusal
+returns-5 c = 
+    let m = c .before .before .before .before in
+    refuse Hours (after4 (c .before .before)) (rw (knows (m .before) .model-is, ← m .model-of .ensures) (told (c .before .wrong-hours .ensures) (c .if5 .taken))) refl refl
+
+-- src/lib.rt:175:8
+no-access-requires : tie.Need-no-access-requires
+no-access-requires c κs = knows (c .before .before .before .before .before) .rows
+
+-- src/lib.rt:176:9
+returns-6 : tie.Need-returns-6
+unfolding refuses refusal
+returns-6 c = 
+    let k = knows (c .before .before .before .before .before .before .before) in
+    refuse Access (after5 (c .before .before)) (access-is _ _ _ _ _ _ k ∙ told (c .before .no-access .ensures) (c .if6 .taken)) refl refl
+
+-- src/lib.rt:178:8
+rights-full-requires : tie.Need-rights-full-requires
+rights-full-requires c κs = search needs
+
+-- src/lib.rt:179:9
+returns-7 : tie.Need-returns-7
+unfolding refuses full refusal
+returns-7 c = 
+    let m = c .before .before .before .before .before .before .before .before in
+    refuse Full (after6 (c .before .before)) (rw (knows (m .before) .model-is, ← m .model-of .ensures) (told (c .before .rights-full .ensures) (c .if7 .taken))) refl refl
+
+-- src/lib.rt:181:9
+bid-shortage-requires : tie.Need-bid-shortage-requires
+bid-shortage-requires c κs = 
+    let m = c .before .before .before .before .before .before .before .before in
+    session-known _ _ _ _ _ _ (knows (m .before)) (m .model-of .ensures) (told (c .before .before .before .before .before .wrong-hours .ensures) (c .before .before .before .before .if5 .left))
+
+-- src/lib.rt:183:23
+enum-known-search : tie.Need-enum-known-search
+enum-known-search c = search needs
+
+-- src/lib.rt:184:27
+enum-told : tie.Need-enum-told
+enum-told c = search needs
+
+-- src/lib.rt:149:1
+returns-8 : tie.Need-returns-8
+returns-8 c = subst (Says (c .before .before .before .before .before .before .before .before .before .before .before .before .before .before .before .before .before .before .before)) (c .before .search .given .1) (judge (c .before .before .before))
+
+-- src/lib.rt:149:1
+returns-9 : tie.Need-returns-9
+returns-9 c = subst (Says (c .before .before .before .before .before .before .before .before .before .before .before .before .before .before .before .before .before .before)) (c .enum-told .given .1) (judge (c .before .before))
+
+pub bid-verdict-spec : {M : Type 1} → statement M
+bid-verdict-spec =
+    tie.close
+    (tie.spec
+    bid-field-requires
+    returns
+    is-early-requires
+    returns-2
+    bid-unknown-requires
+    returns-3
+    model-of-requires
+    outside-requires
+    returns-4
+    wrong-hours-requires
+    returns-5
+    no-access-requires
+    returns-6
+    rights-full-requires
+    returns-7
+    bid-shortage-requires
+    enum-known-search
+    enum-told
+    returns-8
+    returns-9)

@@ -1,0 +1,85 @@
+-- The first entry of a table that passes a test: the search for it, and the table with that entry changed or else a new one added.
+-- Assumes nothing.
+use Prim.Native.Nat.{ℕ, zero, suc, _+_, _≤_, _<_}
+use mathlib.Core.Path.{_≡_, refl, ap, _∙_}
+use mathlib.Core.Logic.{_≢_}
+use mathlib.Core.Bool.{Bool, true, false, cond}
+use mathlib.Core.List.{List, [], _∷_, _++_}
+use native.Mathlib.Omega.{arith}
+use native.Mathlib.Nat.{add-zero, zero-add}
+use borrow.Author.Tests.{lt-ltb}
+use lib.Dec.{ltb, leb·suc-suc}
+use lib.ListN.{getD, set, length}
+use Rattle.rules.specs.Book.{Right}
+use Rattle.rules.specs.Bids.{wrapAdded, isRightOf, addedRight, rightFrom}
+use Rattle.cells.specs.Loops.{each, rows}
+use Rattle.cells.specs.View.{cell, counted}
+use Rattle.cells.proofs.Rows.{rows-set}
+
+module _ {A : Type 0} (t : A → Bool) where
+  unfoldable pub placeOf : List A → ℕ
+  placeOf [] = 0
+  placeOf (x ∷ xs) = cond (t x) 0 (suc (placeOf xs))
+
+  unfoldable pub changed : (A → A) → A → List A → List A
+  changed g n [] = n ∷ []
+  changed g n (x ∷ xs) = cond (t x) (g x ∷ xs) (x ∷ changed g n xs)
+
+  pub changed-there : (g : A → A) (n z : A) (xs : List A) → placeOf xs < length xs → changed g n xs ≡ set xs (placeOf xs) (g (getD xs (placeOf xs) z))
+  unfolding placeOf changed
+  changed-there g n z [] l = absurd (omega arith)
+  changed-there g n z (x ∷ xs) l = go (t x) refl (changed-there g n z xs)
+    where
+      go : (s : Bool) → t x ≡ s → (placeOf xs < length xs → changed g n xs ≡ set xs (placeOf xs) (g (getD xs (placeOf xs) z)))
+          → cond s (g x ∷ xs) (x ∷ changed g n xs) ≡ set (x ∷ xs) (cond s 0 (suc (placeOf xs))) (g (getD (x ∷ xs) (cond s 0 (suc (placeOf xs))) z))
+      go true e ih = refl
+      go false e ih = let m : suc (placeOf xs) < suc (length xs) = rw e at l in ap (λ (r : List A). x ∷ r) (ih (omega arith))
+
+  pub changed-new : (g : A → A) (n : A) (xs : List A) → length xs ≤ placeOf xs → changed g n xs ≡ xs ++ (n ∷ [])
+  unfolding placeOf changed
+  changed-new g n [] l = refl
+  changed-new g n (x ∷ xs) l = go (t x) refl (changed-new g n xs)
+    where
+      go : (s : Bool) → t x ≡ s → (length xs ≤ placeOf xs → changed g n xs ≡ xs ++ (n ∷ [])) → cond s (g x ∷ xs) (x ∷ changed g n xs) ≡ (x ∷ xs) ++ (n ∷ [])
+      go true e ih = let m : suc (length xs) ≤ 0 = rw e at l in absurd (omega arith)
+      go false e ih = let m : suc (length xs) ≤ suc (placeOf xs) = rw e at l in ap (λ (r : List A). x ∷ r) (ih (omega arith))
+
+  -- the search, for any two answers `at` and `none`
+  module _ {F : Type 0} (at : ℕ → F) (none : F) (f : ℕ → A) where
+    unfoldable pub tryRow : ℕ → F → F
+    tryRow k rest = cond (t (f k)) (at k) rest
+
+    pub search-is : (n k : ℕ) → each tryRow n k none ≡ cond (ltb (placeOf (rows f n k)) n) (at (k + placeOf (rows f n k))) none
+    unfolding each rows placeOf tryRow
+    search-is zero k = refl
+    search-is (suc n) k = go (t (f k)) (search-is n (k + 1))
+      where
+        go : (s : Bool) → each tryRow n (k + 1) none ≡ cond (ltb (placeOf (rows f n (k + 1))) n) (at (k + 1 + placeOf (rows f n (k + 1)))) none
+            → cond s (at k) (each tryRow n (k + 1) none)
+            ≡ cond (ltb (cond s 0 (suc (placeOf (rows f n (k + 1))))) (suc n)) (at (k + cond s 0 (suc (placeOf (rows f n (k + 1)))))) none
+        go true ih = rw (lt-ltb 0 (suc n) (omega arith), add-zero k)
+        go false ih =
+            let e : k + suc (placeOf (rows f n (k + 1))) ≡ k + 1 + placeOf (rows f n (k + 1)) = omega arith in
+            ih ∙ rw (e, leb·suc-suc (suc (placeOf (rows f n (k + 1)))) n)
+
+-- one row of a table changed
+pub table-set : {A : Type 0} (f : List ℕ → ℕ → A) (at limit : ℕ) (b b′ : List ℕ) (i : ℕ) → cell b′ at ≡ cell b at → i < counted b at limit
+    → ((j : ℕ) → j ≢ i → f b′ j ≡ f b j) → rows (f b′) (counted b′ at limit) 0 ≡ set (rows (f b) (counted b at limit) 0) i (f b′ i)
+table-set f at limit b b′ i e l same =
+    rw e (rows-set (f b) (f b′) (counted b at limit) 0 i l (λ j q. same j (λ r. q (omega arith))) ∙ rw (zero-add i))
+
+-- ---- the rules' own searches and changes are these
+
+pub right-from : (h d s : ℕ) (rs : List Right) → rightFrom h d s rs ≡ placeOf (isRightOf h d s) rs
+unfolding rightFrom placeOf
+right-from h d s [] = refl
+right-from h d s (x ∷ rs) = ap (λ (n : ℕ). cond (isRightOf h d s x) 0 (suc n)) (right-from h d s rs)
+
+abbrev pub raised : List ℕ → Right → Right
+raised mw x = record { holder = x .holder; direction = x .direction; session = x .session; mw = wrapAdded (x .mw) mw }
+
+pub added-right : (h d s : ℕ) (mw : List ℕ) (rs : List Right)
+    → addedRight h d s mw rs ≡ changed (isRightOf h d s) (raised mw) (record { holder = h; direction = d; session = s; mw = mw }) rs
+unfolding addedRight changed
+added-right h d s mw [] = refl
+added-right h d s mw (x ∷ rs) = ap (λ (l : List Right). cond (isRightOf h d s x) (raised mw x ∷ rs) (x ∷ l)) (added-right h d s mw rs)

@@ -1,0 +1,10 @@
+pub mod Rows
+pub mod Turns
+pub mod Regions
+pub mod Stores
+pub mod Runs
+pub mod Grants
+pub mod Views
+pub mod Tables
+pub mod Firsts
+pub mod Raised

@@ -1,0 +1,103 @@
+-- What the stores of a granted call do to the book that the cells hold.
+-- Assumes nothing.
+use Prim.Native.Nat.{ℕ, _+_, _*_, _≤_, _<_}
+use mathlib.Core.Path.{_≡_, refl, sym, ap, _∙_}
+use mathlib.Core.Logic.{_≢_}
+use mathlib.Core.Bool.{cond}
+use mathlib.Core.List.{List, [], _∷_, _++_}
+use native.Mathlib.Nat.{zero-add}
+use native.Mathlib.Omega.{arith}
+use lib.Dec.{eqb, lit≤, lit<}
+use lib.ListN.{getD, set, length, length-set, replicate, length-replicate, getD-replicate}
+use lib.Seq.{getD-set-same, getD-set-other, ext-getD}
+use Rattle.rules.specs.Book.{opened}
+use Rattle.cells.specs.Layout.{CELLS, DIRECTIONS, PROFILES, PARTIES, OFFERED, GRANTED, MATCHED, RIGHTS, PAIRS}
+use Rattle.cells.specs.Loops.{rows}
+use Rattle.cells.specs.View.{cell, cellFrom, part, dayHoursIn, weekdayIn, directionsIn, profilesIn, partiesIn, offeredIn, grantedIn, matchedIn, rightsIn, pairsIn, bookOf}
+use Rattle.cells.specs.Stores.{clocked, emptied}
+use Rattle.cells.proofs.Rows.{rows-length, rows-at, rows-set}
+use Rattle.cells.proofs.Regions.{Within, within-more, only-offered, only-clock}
+use Rattle.cells.specs.Updates.{withOffered, withClock}
+
+-- ---- one cell
+
+pub set-within : (b : List ℕ) (at v lo hi : ℕ) → lo ≤ at → at < hi → Within lo hi b (set b at v)
+set-within b at v lo hi l u =
+    record {
+      below = λ i h. getD-set-other b at i v 0 (λ e. omega arith);
+      above = λ i h. getD-set-other b at i v 0 (λ e. omega arith);
+    }
+
+pub part-length : (b : List ℕ) (at n : ℕ) → length (part b at n) ≡ n
+unfolding part
+part-length b at n = rows-length (cellFrom b at) n 0
+
+-- a cell of a part
+pub part-at : (b : List ℕ) (at n i : ℕ) → i < n → getD (part b at n) i 0 ≡ cell b (at + i)
+unfolding part cellFrom
+part-at b at n i l = rows-at (cellFrom b at) n 0 i 0 l ∙ rw (zero-add i)
+
+pub part-set : (b : List ℕ) (at n i v : ℕ) → i < n → at + i < length b → part (set b (at + i) v) at n ≡ set (part b at n) i v
+unfolding part cellFrom
+part-set b at n i v l u =
+    rows-set (cellFrom b at) (cellFrom (set b (at + i) v) at) n 0 i l (λ j e. getD-set-other b (at + i) (at + j) v 0 (λ q. e (omega arith)))
+    ∙ ap (λ (x : ℕ). set (rows (cellFrom b at) n 0) i x) (rw (zero-add i) (getD-set-same b (at + i) v 0 u))
+
+-- ---- the tables
+
+pub offered-set : (b : List ℕ) (i v : ℕ) → i < 800 → length b ≡ CELLS → bookOf (set b (OFFERED + i) v) ≡ withOffered (bookOf b) (set (bookOf b .offered) i v)
+unfolding bookOf offeredIn
+offered-set b i v l u =
+    only-offered b (set b (OFFERED + i) v) (set-within b (OFFERED + i) v OFFERED GRANTED (omega arith) (omega arith))
+    ∙ ap (λ (x : List ℕ). withOffered (bookOf b) x) (part-set b OFFERED 800 i v l (omega arith))
+
+pub clock-set : (b : List ℕ) (time : ℕ) → length b ≡ CELLS → bookOf (clocked time b) ≡ withClock (bookOf b) time
+unfolding bookOf
+clock-set b time u =
+    let w = within-more (set-within b 2 time 2 4 (lit≤ tt) (lit< tt)) (set-within (set b 2 time) 3 1 2 4 (lit≤ tt) (lit< tt)) in
+    only-clock b (clocked time b) w
+    ∙ rw (getD-set-same (set b 2 time) 3 1 0 (simp length-set (omega arith)), getD-set-other (set b 2 time) 3 2 1 0 (λ e. omega arith), getD-set-same b 2 time 0 (omega arith))
+
+-- ---- a book with no entries
+
+-- all cells but the first two are 0
+abbrev Clear : List ℕ → Type 0
+Clear b = (i : ℕ) → 2 ≤ i → i < CELLS → cell b i ≡ 0
+
+part-clear : (b : List ℕ) (at n : ℕ) → ((i : ℕ) → i < n → cell b (at + i) ≡ 0) → part b at n ≡ replicate n 0
+unfolding part cellFrom
+part-clear b at n h =
+    ext-getD 0 (part b at n) (replicate n 0) (rows-length (cellFrom b at) n 0 ∙ sym (length-replicate {A = ℕ} n 0))
+    (λ i l. let k : i < n = rw (rows-length (cellFrom b at) n 0) at l in part-at b at n i k ∙ h i k ∙ sym (getD-replicate n i 0 0 k))
+
+part-none : (b : List ℕ) (at : ℕ) → part b at 0 ≡ []
+unfolding part rows
+part-none b at = refl
+
+clear-book : (b : List ℕ) → Clear b → bookOf b ≡ opened (dayHoursIn b) (weekdayIn b)
+unfolding bookOf opened directionsIn profilesIn partiesIn rightsIn pairsIn offeredIn grantedIn matchedIn rows
+clear-book b h =
+    rw (
+      h 2 (lit≤ tt) (lit< tt),
+      h 3 (lit≤ tt) (lit< tt),
+      h DIRECTIONS (lit≤ tt) (lit< tt),
+      h PROFILES (lit≤ tt) (lit< tt),
+      h PARTIES (lit≤ tt) (lit< tt),
+      h RIGHTS (lit≤ tt) (lit< tt),
+      h PAIRS (lit≤ tt) (lit< tt),
+      part-none b (PROFILES + 1),
+      part-clear b OFFERED 800 (λ i l. h (OFFERED + i) (omega arith) (omega arith)),
+      part-clear b GRANTED 800 (λ i l. h (GRANTED + i) (omega arith) (omega arith)),
+      part-clear b MATCHED 600 (λ i l. h (MATCHED + i) (omega arith) (omega arith)),
+    )
+
+emptied-clear : (n day : ℕ) → Clear (emptied n day)
+unfolding emptied
+emptied-clear n day i l u =
+    getD-set-other (set (replicate CELLS 0) 0 n) 1 i day 0 (λ e. omega arith)
+    ∙ getD-set-other (replicate CELLS 0) 0 i n 0 (λ e. omega arith)
+    ∙ getD-replicate CELLS i 0 0 u
+
+pub emptied-book : (n day : ℕ) → bookOf (emptied n day) ≡ opened (cond (eqb n 23) 23 (cond (eqb n 25) 25 24)) day
+unfolding emptied dayHoursIn
+emptied-book n day = clear-book (emptied n day) (emptied-clear n day)

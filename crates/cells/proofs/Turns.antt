@@ -1,0 +1,46 @@
+-- The turn and the end of a loop that counts k up to n: a search, and a run of stores.
+-- Assumes nothing.
+use mathlib.Core.Path.{_≡_}
+use mathlib.Core.Bool.{Bool, true, false, cond}
+use Prim.Native.Nat.{ℕ, suc, _+_, _-_, _≤_, _<_}
+use native.Mathlib.Omega.{arith}
+use Rattle.cells.specs.Loops.{each, run}
+
+one-more : (n k : ℕ) → k < n → n - k ≡ suc (n - (k + 1))
+one-more n k h = omega arith
+
+none-left : (n k : ℕ) → n ≤ k → n - k ≡ 0
+none-left n k h = omega arith
+
+from-zero : (n : ℕ) → n - 0 ≡ n
+from-zero n = omega arith
+
+module _ {A : Type 0} where
+  pub each-next : (f : ℕ → A → A) (n k : ℕ) (z : A) → k < n → each f (n - k) k z ≡ f k (each f (n - (k + 1)) (k + 1) z)
+  unfolding each
+  each-next f n k z h = rw (one-more n k h)
+
+  pub each-done : (f : ℕ → A → A) (n k : ℕ) (z : A) → n ≤ k → each f (n - k) k z ≡ z
+  unfolding each
+  each-done f n k z h = rw (none-left n k h)
+
+  pub each-start : (f : ℕ → A → A) (n : ℕ) (z : A) → each f n 0 z ≡ each f (n - 0) 0 z
+  each-start f n z = rw (from-zero n)
+
+  pub run-start : (f : ℕ → A → A) (n : ℕ) (a : A) → run f n 0 a ≡ run f (n - 0) 0 a
+  run-start f n a = rw (from-zero n)
+
+  pub run-next : (f : ℕ → A → A) (n k : ℕ) (a : A) → k < n → run f (n - k) k a ≡ run f (n - (k + 1)) (k + 1) (f k a)
+  unfolding run
+  run-next f n k a h = rw (one-more n k h)
+
+  pub run-done : (f : ℕ → A → A) (n k : ℕ) (a : A) → n ≤ k → run f (n - k) k a ≡ a
+  unfolding run
+  run-done f n k a h = rw (none-left n k h)
+
+  -- `cond` at a test whose answer a call gave
+  pub told-true : {r t : Bool} (a b : A) → r ≡ t → r ≡ true → cond t a b ≡ a
+  told-true a b e h = rw (← e, h)
+
+  pub told-false : {r t : Bool} (a b : A) → r ≡ t → r ≡ false → cond t a b ≡ b
+  told-false a b e h = rw (← e, h)

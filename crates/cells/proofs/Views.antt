@@ -1,0 +1,126 @@
+-- What the code reads in cells, as the rules read it in the book.
+-- Assumes nothing.
+use Prim.Native.Nat.{ℕ, _+_, _*_, _-_, _≤_, _<_}
+use mathlib.Core.Path.{_≡_, refl, ap, _∙_}
+use mathlib.Core.Bool.{Bool, true, false, cond, _||_}
+use mathlib.Core.List.{List, []}
+use native.Mathlib.Omega.{arith}
+use native.Mathlib.Nat.{zero-add}
+use lib.Dec.{eqb, leb, ltb, lit≤}
+use borrow.Author.Tests.{leb-false, ltb-false}
+use lib.ListN.{length, getD}
+use Rattle.rules.specs.Book.{Direction, Party, place, direction, party, right, leftAt, modelOf}
+use Rattle.rules.specs.Refusals.{order, firstOf, hourUnknown}
+use Rattle.cells.specs.Layout.{DIRECTIONS, PROFILES, PARTIES, OFFERED, GRANTED, RIGHTS}
+use Rattle.cells.specs.View.{cell, counted, dayHoursIn, directionAt, directionsIn, profilesIn, partyAt, partiesIn, offeredIn, grantedIn, rightAt, rightsIn, bookOf}
+use Rattle.rules.specs.Reads.{directionReadRefuses, readDirection}
+use Rattle.rules.proofs.Bools.{or-left, or-right}
+use Rattle.cells.proofs.Rows.{rows-length, rows-at}
+use Rattle.cells.proofs.Stores.{part-at, part-length}
+
+pub direction-count : (b : List ℕ) → length (bookOf b .directions) ≡ counted b DIRECTIONS 24
+unfolding bookOf directionsIn
+direction-count b = rows-length (directionAt b) (counted b DIRECTIONS 24) 0
+
+pub offered-at : (b : List ℕ) (i : ℕ) → i < 800 → getD (bookOf b .offered) i 0 ≡ cell b (OFFERED + i)
+unfolding bookOf offeredIn
+offered-at b i l = part-at b OFFERED 800 i l
+
+pub granted-at : (b : List ℕ) (i : ℕ) → i < 800 → getD (bookOf b .granted) i 0 ≡ cell b (GRANTED + i)
+unfolding bookOf grantedIn
+granted-at b i l = part-at b GRANTED 800 i l
+
+pub offered-place : (b : List ℕ) (l h : ℕ) → (l < 32) × ((1 ≤ h) × (h ≤ 25)) → getD (bookOf b .offered) (place l h) 0 ≡ cell b (OFFERED + place l h)
+offered-place b l h p = offered-at b (place l h) (omega arith)
+
+pub granted-place : (b : List ℕ) (l h : ℕ) → (l < 32) × ((1 ≤ h) × (h ≤ 25)) → getD (bookOf b .granted) (place l h) 0 ≡ cell b (GRANTED + place l h)
+granted-place b l h p = granted-at b (place l h) (omega arith)
+
+-- a day has 23 to 25 hours, whatever its cell holds
+pub hours-within : (b : List ℕ) → (23 ≤ dayHoursIn b) × (dayHoursIn b ≤ 25)
+unfolding dayHoursIn
+hours-within b = go (eqb (cell b 0) 23) (eqb (cell b 0) 25)
+  where
+    go : (t u : Bool) → (23 ≤ cond {A = ℕ} t 23 (cond u 25 24)) × (cond {A = ℕ} t 23 (cond u 25 24) ≤ 25)
+    go true u = (lit≤ tt, lit≤ tt)
+    go false true = (lit≤ tt, lit≤ tt)
+    go false false = (lit≤ tt, lit≤ tt)
+
+-- a direction and an hour that are there
+pub record Known (b : List ℕ) (d hour : ℕ) : Type 0 where
+  pub direction : d < counted b DIRECTIONS 24
+  pub row : d < 24
+  pub first : 1 ≤ hour
+  pub last : hour ≤ dayHoursIn b
+  pub most : hour ≤ 25
+
+known-hour : (b : List ℕ) (hour : ℕ) → hourUnknown (bookOf b) hour ≡ false → (1 ≤ hour) × ((hour ≤ dayHoursIn b) × (hour ≤ 25))
+unfolding hourUnknown bookOf
+known-hour b hour f =
+    let n : hour ≤ dayHoursIn b = ltb-false (dayHoursIn b) hour (or-right (ltb hour 1) (ltb (dayHoursIn b) hour) f) in
+    let k = hours-within b in
+    (ltb-false hour 1 (or-left (ltb hour 1) (ltb (dayHoursIn b) hour) f), (n, omega arith))
+
+pub known : (b : List ℕ) (d hour : ℕ) → (leb (length (bookOf b .directions)) d || hourUnknown (bookOf b) hour) ≡ false → Known b d hour
+known b d hour e =
+    let l : d < counted b DIRECTIONS 24 = rw (direction-count b) at (leb-false (length (bookOf b .directions)) d (or-left _ (hourUnknown (bookOf b) hour) e)) in
+    let h = known-hour b hour (or-right (leb (length (bookOf b .directions)) d) (hourUnknown (bookOf b) hour) e) in
+    record { direction = l; row = omega arith; first = h .0; last = h .1 .0; most = h .1 .1 }
+
+pub slot : {b : List ℕ} {d hour : ℕ} → Known b d hour → (d < 32) × ((1 ≤ hour) × (hour ≤ 25))
+slot k = let l = k .row in (omega arith, (k .first, k .most))
+
+pub read-left : (b : List ℕ) (d hour : ℕ) → (leb (length (bookOf b .directions)) d || hourUnknown (bookOf b) hour) ≡ false
+    → readDirection (bookOf b) d hour ≡ record { number = 0; left = cell b (OFFERED + place d hour) - cell b (GRANTED + place d hour) }
+unfolding readDirection directionReadRefuses firstOf order
+read-left b d hour e =
+    let k = slot (known b d hour e) in
+    rw (e, offered-place b d hour k, granted-place b d hour k)
+
+-- capacity left
+pub left-at : (b : List ℕ) (l h : ℕ) → (l < 32) × ((1 ≤ h) × (h ≤ 25)) → leftAt (bookOf b) l h ≡ cell b (OFFERED + place l h) - cell b (GRANTED + place l h)
+left-at b l h p = rw (offered-place b l h p, granted-place b l h p)
+
+-- ---- profiles
+
+pub profile-count : (b : List ℕ) → length (bookOf b .profiles) ≡ counted b PROFILES 8
+unfolding bookOf profilesIn
+profile-count b = part-length b (PROFILES + 1) (counted b PROFILES 8)
+
+pub record KnownProfile (b : List ℕ) (p hour : ℕ) : Type 0 where
+  pub profile : p < 8
+  pub first : 1 ≤ hour
+  pub last : hour ≤ dayHoursIn b
+  pub row : (24 + p < 32) × ((1 ≤ hour) × (hour ≤ 25))
+
+pub known-profile : (b : List ℕ) (p hour : ℕ) → (leb (length (bookOf b .profiles)) p || hourUnknown (bookOf b) hour) ≡ false → KnownProfile b p hour
+known-profile b p hour e =
+    let l : p < counted b PROFILES 8 = rw (profile-count b) at (leb-false (length (bookOf b .profiles)) p (or-left _ (hourUnknown (bookOf b) hour) e)) in
+    let h = known-hour b hour (or-right (leb (length (bookOf b .profiles)) p) (hourUnknown (bookOf b) hour) e) in
+    record { profile = omega arith; first = h .0; last = h .1 .0; row = (omega arith, (h .0, h .1 .1)) }
+
+-- ---- parties and rights
+
+pub party-count : (b : List ℕ) → length (bookOf b .parties) ≡ counted b PARTIES 64
+unfolding bookOf partiesIn
+party-count b = rows-length (partyAt b) (counted b PARTIES 64) 0
+
+pub access-at : (b : List ℕ) (p : ℕ) → p < counted b PARTIES 64 → party (bookOf b .parties) p .access ≡ cell b (PARTIES + 17 + p * 17)
+unfolding bookOf partiesIn
+access-at b p l =
+    ap (λ (x : Party). x .access) (rows-at (partyAt b) (counted b PARTIES 64) 0 p (record { code = []; access = 0 }) l ∙ ap (partyAt b) (zero-add p)) ∙ unfold partyAt in refl
+
+pub direction-at : (b : List ℕ) (d : ℕ) → d < counted b DIRECTIONS 24 → direction (bookOf b .directions) d ≡ directionAt b d
+unfolding bookOf directionsIn
+direction-at b d l = rows-at (directionAt b) (counted b DIRECTIONS 24) 0 d (record { out = 0; into = 0; model = 0 }) l ∙ ap (directionAt b) (zero-add d)
+
+pub model-at : (b : List ℕ) (d : ℕ) → d < counted b DIRECTIONS 24 → modelOf (bookOf b) d ≡ directionAt b d .model
+model-at b d l = ap (λ (x : Direction). x .model) (direction-at b d l)
+
+pub right-count : (b : List ℕ) → length (bookOf b .rights) ≡ counted b RIGHTS 512
+unfolding bookOf rightsIn
+right-count b = rows-length (rightAt b) (counted b RIGHTS 512) 0
+
+pub right-at : (b : List ℕ) (r : ℕ) → r < counted b RIGHTS 512 → right (bookOf b .rights) r ≡ rightAt b r
+unfolding bookOf rightsIn
+right-at b r l = rows-at (rightAt b) (counted b RIGHTS 512) 0 r _ l ∙ ap (rightAt b) (zero-add r)

@@ -1,0 +1,181 @@
+// Offers, and the reads of capacity left. No call has a `requires`: each promise is an equation with the rules, whatever the cells hold.
+ghost use mathlib.Core.Path.{_≡_};
+ghost use mathlib.Core.Bool.{_||_};
+ghost use Prim.Native.Nat.{_+_, _<_, _≤_};
+ghost use lib.Dec.{ltb};
+ghost use lib.ListN.{getD};
+ghost use Rattle.rules.specs.Windows.{latest, offerOutside};
+ghost use Rattle.rules.specs.Book.{place};
+ghost use Rattle.rules.specs.Calls.{OfferDirection, OfferProfile};
+ghost use Rattle.rules.specs.Refusals.{directionUnknown, profileUnknown, hourUnknown};
+ghost use Rattle.cells.specs.View.{bookOf};
+ghost use Rattle.answers.specs.Promises.{Judged, Answers, ReadsDirection, ReadsProfile};
+ghost use Rattle.offers.specs.Work.{Placed, leftIn};
+use answers::LeftRead;
+use answers::Verdict;
+use cells::Book;
+use rules::Answer;
+use rules::Hour;
+
+// The profiles' rows of MW follow those of the directions.
+const PROFILE_ROW: u8 = 24;
+
+// ---- tests
+
+// The time or the MW is out of range.
+fn offer_field(time: u32, mw: u16) -> bool
+    ensures { λ r. ⌜ r ≡ (ltb latest time || ltb 9999 mw) ⌝ }
+{
+    time > 2999 || mw > 9999
+}
+
+fn direction_hour_unknown(book: &Book, direction: u8, hour: u8) -> bool
+    ensures { λ r. ⌜ r ≡ (directionUnknown (bookOf (now (book .entry))) direction || hourUnknown (bookOf (now (book .entry))) hour) ⌝ }
+{
+    answers::direction_unknown(book, direction) || answers::hour_unknown(book, hour)
+}
+
+fn profile_hour_unknown(book: &Book, profile: u8, hour: u8) -> bool
+    ensures { λ r. ⌜ r ≡ (profileUnknown (bookOf (now (book .entry))) profile || hourUnknown (bookOf (now (book .entry))) hour) ⌝ }
+{
+    cells::count_in(book, cells::PROFILES, 8) <= profile as u32 || answers::hour_unknown(book, hour)
+}
+
+// Outside the window of offers of the session that holds the hour.
+fn outside(book: &Book, model: u32, hour: u8, time: u32) -> bool
+    ensures { λ r. ⌜ r ≡ offerOutside (bookOf (now (book .entry)) .hours) (bookOf (now (book .entry)) .weekday) model hour time ⌝ }
+{
+    let hours = cells::hours(book);
+    let weekday = cells::weekday(book);
+    day::offer_outside(hours, weekday, model, Hour(hour), time)
+}
+
+// Under the MW granted there.
+fn offer_below(book: &Book, row: u8, hour: u8, mw: u16) -> bool
+    requires { ⌜ (row < 32) × ((1 ≤ hour) × (hour ≤ 25)) ⌝ }
+    ensures { λ r. ⌜ r ≡ ltb mw (getD (bookOf (now (book .entry)) .granted) (place row hour) 0) ⌝ }
+{
+    (mw as u32) < cells::granted_at(book, row, hour)
+}
+
+fn direction_verdict(book: &Book, time: u32, direction: u8, hour: u8, mw: u16) -> Verdict
+    ensures { λ r. ⌜ Judged (bookOf (now (book .entry))) (OfferDirection time direction hour mw) r ⌝ }
+{
+    if offer_field(time, mw) {
+        return Verdict::No(Answer::Field);
+    }
+    if answers::is_early(book, time) {
+        return Verdict::No(Answer::Clock);
+    }
+    if direction_hour_unknown(book, direction, hour) {
+        return Verdict::No(Answer::Unknown);
+    }
+    let model = cells::model_of(book, direction);
+    if outside(book, model, hour, time) {
+        return Verdict::No(Answer::Gate);
+    }
+    if offer_below(book, direction, hour, mw) {
+        return Verdict::No(Answer::Below);
+    }
+    Verdict::Clear
+}
+
+fn profile_verdict(book: &Book, time: u32, profile: u8, hour: u8, mw: u16) -> Verdict
+    ensures { λ r. ⌜ Judged (bookOf (now (book .entry))) (OfferProfile time profile hour mw) r ⌝ }
+{
+    if offer_field(time, mw) {
+        return Verdict::No(Answer::Field);
+    }
+    if answers::is_early(book, time) {
+        return Verdict::No(Answer::Clock);
+    }
+    if profile_hour_unknown(book, profile, hour) {
+        return Verdict::No(Answer::Unknown);
+    }
+    if outside(book, 1, hour, time) {
+        return Verdict::No(Answer::Gate);
+    }
+    if offer_below(book, PROFILE_ROW + profile, hour, mw) {
+        return Verdict::No(Answer::Below);
+    }
+    Verdict::Clear
+}
+
+// ---- the calls
+
+// The MW of a row in an hour: what is then left.
+fn place_offer(book: &mut Book, time: u32, row: u8, hour: u8, mw: u16) -> u32
+    requires { ⌜ (row < 32) × ((1 ≤ hour) × (hour ≤ 25)) ⌝ }
+    ensures { λ r. ⌜ Placed (now (book .entry)) time row hour mw r (now (book .exit)) ⌝ }
+{
+    let count = cells::cells_in(book);
+    let granted = cells::granted_at(book, row, hour);
+    cells::set_offered(book, row, hour, mw);
+    cells::set_clock(book, time);
+    answers::less(mw as u32, granted)
+}
+
+pub fn offer_direction(book: &mut Book, time: u32, direction: u8, hour: Hour, mw: u16) -> Answer
+    ensures { λ r. ⌜ Answers (now (book .entry)) (OfferDirection time direction (hour .0) mw) r (now (book .exit)) ⌝ }
+{
+    let number = hour.0;
+    let verdict = direction_verdict(book, time, direction, number, mw);
+    match verdict {
+        Verdict::No(answer) => answer,
+        Verdict::Clear => Answer::Granted(place_offer(book, time, direction, number, mw)),
+    }
+}
+
+pub fn offer_profile(book: &mut Book, time: u32, profile: u8, hour: Hour, mw: u16) -> Answer
+    ensures { λ r. ⌜ Answers (now (book .entry)) (OfferProfile time profile (hour .0) mw) r (now (book .exit)) ⌝ }
+{
+    let number = hour.0;
+    let verdict = profile_verdict(book, time, profile, number, mw);
+    match verdict {
+        Verdict::No(answer) => answer,
+        Verdict::Clear => {
+            Answer::Granted(place_offer(book, time, PROFILE_ROW + profile, number, mw))
+        }
+    }
+}
+
+// ---- the reads
+
+// What a row has left in an hour.
+fn left_at(book: &Book, row: u8, hour: u8) -> LeftRead
+    requires { ⌜ (row < 32) × ((1 ≤ hour) × (hour ≤ 25)) ⌝ }
+    ensures { λ r. ⌜ r ≡ leftIn (now (book .entry)) row hour ⌝ }
+{
+    let offered = cells::offered_at(book, row, hour);
+    let granted = cells::granted_at(book, row, hour);
+    LeftRead {
+        answer: Answer::Granted(0),
+        left: answers::less(offered, granted),
+    }
+}
+
+pub fn left_of_direction(book: &Book, direction: u8, hour: Hour) -> LeftRead
+    ensures { λ r. ⌜ ReadsDirection (now (book .entry)) direction (hour .0) r ⌝ }
+{
+    let number = hour.0;
+    if direction_hour_unknown(book, direction, number) {
+        return LeftRead {
+            answer: Answer::Unknown,
+            left: 0,
+        };
+    }
+    left_at(book, direction, number)
+}
+
+pub fn left_of_profile(book: &Book, profile: u8, hour: Hour) -> LeftRead
+    ensures { λ r. ⌜ ReadsProfile (now (book .entry)) profile (hour .0) r ⌝ }
+{
+    let number = hour.0;
+    if profile_hour_unknown(book, profile, number) {
+        return LeftRead {
+            answer: Answer::Unknown,
+            left: 0,
+        };
+    }
+    left_at(book, PROFILE_ROW + profile, number)
+}

@@ -1,0 +1,5 @@
+pub mod Opening
+pub mod Searches
+pub mod Bits
+pub mod Copies
+pub mod Adding

@@ -1,0 +1,73 @@
+-- The tests for an entry that is taken, as the rules say them over a list and as a loop finds them over the cells.
+-- Assumes nothing.
+use Prim.Native.Nat.{ℕ, zero, suc, _+_, _-_, _*_, _≤_, _<_}
+use mathlib.Core.Path.{_≡_, refl, sym, ap, _∙_}
+use mathlib.Core.Bool.{Bool, true, false, _||_, _&&_}
+use mathlib.Core.List.{List, [], _∷_}
+use native.Mathlib.Omega.{arith}
+use native.Mathlib.Numerals.{add-one}
+use lib.Dec.{eqb}
+use lib.ListN.{length, getD, drop, drop-of-length-le}
+use lib.Seq.{drop-cons}
+use Rattle.rules.specs.Basics.{same}
+use Rattle.rules.specs.Setup.{directionTaken, codeTaken}
+use Rattle.cells.specs.Loops.{each, rows}
+use Rattle.cells.specs.Layout.{DIRECTIONS, PARTIES}
+use Rattle.cells.specs.View.{cell, cellFrom, part, bookOf, counted, directionAt, directionsIn, partyAt, partiesIn}
+use Rattle.cells.proofs.Turns.{each-next, each-done}
+use Rattle.answers.proofs.Laws.{told-or, told-next}
+use Rattle.setup.specs.Work.{clashes, sameCode}
+
+-- ---- an entry of a table
+
+module _ {A : Type 0} (t : A → Bool) (f : ℕ → A) where
+  -- a search's step
+  unfoldable pub tryRow : ℕ → Bool → Bool
+  tryRow k rest = t (f k) || rest
+
+  -- a rule that asks whether one of a list passes the test
+  taken-each : (taken : List A → Bool) → taken [] ≡ false → ((x : A) (xs : List A) → taken (x ∷ xs) ≡ (t x || taken xs))
+      → (n k : ℕ) → taken (rows f n k) ≡ each tryRow n k false
+  unfolding rows each tryRow
+  taken-each taken none one zero k = none
+  taken-each taken none one (suc n) k = one (f k) (rows f n (k + 1)) ∙ ap (λ (x : Bool). t (f k) || x) (taken-each taken none one n (k + 1))
+
+  -- a turn of the loop that finds one, a turn that does not, and the end
+  module _ {x : Bool} {n k : ℕ} (rest : x ≡ each tryRow (n - k) k false) where
+    pub found : {r : Bool} → k < n → r ≡ t (f k) → r ≡ true → true ≡ x
+    unfolding tryRow
+    found l e h = sym (rest ∙ each-next tryRow n k false l ∙ told-or _ e h)
+
+    pub not-found : {r : Bool} → k < n → r ≡ t (f k) → r ≡ false → x ≡ each tryRow (n - (k + 1)) (k + 1) false
+    unfolding tryRow
+    not-found l e h = rest ∙ each-next tryRow n k false l ∙ told-next _ e h
+
+    pub none-found : n ≤ k → false ≡ x
+    none-found l = sym (rest ∙ each-done tryRow n k false l)
+
+pub direction-search : (b : List ℕ) (o i m : ℕ) → directionTaken o i m (bookOf b .directions) ≡ each (tryRow (clashes o i m) (directionAt b)) (counted b DIRECTIONS 24) 0 false
+unfolding bookOf directionsIn directionTaken clashes
+direction-search b o i m = taken-each (clashes o i m) (directionAt b) (directionTaken o i m) refl (λ x xs. refl) (counted b DIRECTIONS 24) 0
+
+pub party-search : (b code : List ℕ) → codeTaken code (bookOf b .parties) ≡ each (tryRow (sameCode code) (partyAt b)) (counted b PARTIES 64) 0 false
+unfolding bookOf partiesIn codeTaken
+party-search b code = taken-each (sameCode code) (partyAt b) (codeTaken code) refl (λ x xs. refl) (counted b PARTIES 64) 0
+
+-- ---- a byte of a code
+
+module _ (b : List ℕ) (at : ℕ) (code : List ℕ) where
+  unfoldable pub tryByte : ℕ → Bool → Bool
+  tryByte k rest = eqb (cell b (at + k)) (getD code k 0) && rest
+
+  same-each : (n k : ℕ) → length code ≡ k + n → same (rows (cellFrom b at) n k) (drop k code) ≡ each tryByte n k true
+  unfolding rows each same tryByte cellFrom
+  same-each zero k size =
+      let all : length code ≤ k = omega arith in
+      rw (drop-of-length-le code {i = k} all)
+  same-each (suc n) k size =
+      let inside : k < length code = omega arith in
+      rw (drop-cons code k 0 inside, ← add-one k) (ap (λ (x : Bool). eqb (cell b (at + k)) (getD code k 0) && x) (same-each n (k + 1) (omega arith)))
+
+pub code-search : (b code : List ℕ) (p : ℕ) → length code ≡ 16 → sameCode code (partyAt b p) ≡ each (tryByte b (PARTIES + 1 + p * 17) code) 16 0 true
+unfolding partyAt part
+code-search b code p size = same-each b (PARTIES + 1 + p * 17) code 16 0 size

@@ -1,0 +1,306 @@
+// Set-up: the opening of a day, and directions, profiles and parties. Each promise is an equation with the rules, whatever the cells hold.
+use answers::Verdict;
+use cells::Book;
+use rules::Answer;
+ghost use mathlib.Core.Path.{_≡_};
+ghost use mathlib.Core.Bool.{_||_, not};
+ghost use mathlib.Core.List.{[], _∷_, _++_};
+ghost use Prim.Native.Nat.{_+_, _*_, _^_, _<_, _≤_};
+ghost use lib.Dec.{ltb, leb, eqb};
+ghost use lib.ListN.{length};
+ghost use lib.Count.{ones};
+ghost use Rattle.rules.specs.Calls.{AddDirection, AddProfile, AddParty};
+ghost use Rattle.rules.specs.Codes.{isCode};
+ghost use Rattle.rules.specs.Setup.{directionTaken, codeTaken};
+ghost use Rattle.rules.specs.Opening.{dayRefused};
+ghost use Rattle.cells.specs.Layout.{CELLS};
+ghost use Rattle.cells.specs.View.{bookOf, counted, directionAt, partyAt};
+ghost use Rattle.answers.specs.Promises.{Judged, Opens, Answers};
+ghost use Rattle.setup.specs.Work.{Added, sameOperators, clashes, sameCode};
+
+// How many entries the tables hold.
+const MOST_DIRECTIONS: u32 = 24;
+
+const MOST_PROFILES: u32 = 8;
+
+const MOST_PARTIES: u32 = 64;
+
+// ---- the day
+fn day_refused(hours: u8, weekday: u8) -> bool
+    ensures { λ r. ⌜ r ≡ dayRefused hours weekday ⌝ }
+{
+    if hours < 23 {
+        return true;
+    }
+    if hours > 25 {
+        return true;
+    }
+    if weekday < 1 {
+        return true;
+    }
+    if weekday > 7 {
+        return true;
+    }
+    weekday == 2 && hours != 24
+}
+
+// Refused, it hands back the book of a 24-hour Monday.
+pub fn open_day(book: &mut Book, hours: u8, weekday: u8) -> Answer
+    ensures { λ r. ⌜ Opens hours weekday r (now (book .exit)) ⌝ }
+{
+    if day_refused(hours, weekday) {
+        cells::clear(book, 24, 1);
+        Answer::Day
+    } else {
+        cells::clear(book, hours, weekday);
+        Answer::Granted(0)
+    }
+}
+
+// ---- what the additions share
+fn setup_shut(book: &Book) -> bool
+    ensures { λ r. ⌜ r ≡ bookOf (now (book .entry)) .started ⌝ }
+{
+    cells::is_started(book)
+}
+
+// A row more in a table that has room: its number.
+fn place_row(book: &mut Book, table: usize, limit: u32, row: &[u32]) -> u32
+    requires { ⌜ ((1 ≤ length (now row)) × (length (now row) ≤ 17)) × ((limit ≤ 512) × (table + 1 + limit * length (now row) ≤ CELLS)) × (counted (now book) table limit < limit) ⌝ }
+    ensures { λ r. ⌜ Added (now (book .entry)) table limit (now (row .entry)) r (now (book .exit)) ⌝ }
+{
+    let size = cells::cells_in(book);
+    let count = cells::count_in(book, table, limit);
+    cells::add_row(book, table, count, row);
+    count
+}
+
+// ---- directions
+fn direction_field(out: u8, into: u8, model: u8) -> bool
+    ensures { λ r. ⌜ r ≡ (ltb 6 out || ltb 6 into || eqb out into || not (eqb model 1 || eqb model 4)) ⌝ }
+{
+    if out > 6 {
+        return true;
+    }
+    if into > 6 {
+        return true;
+    }
+    if out == into {
+        return true;
+    }
+    if model == 1 {
+        return false;
+    }
+    model != 4
+}
+
+fn same_operators(book: &Book, direction: u32, out: u8, into: u8) -> bool
+    requires { ⌜ direction < 24 ⌝ }
+    ensures { λ r. ⌜ r ≡ sameOperators (directionAt (now (book .entry)) direction) out into ⌝ }
+{
+    let row = direction as usize * 3;
+    book[cells::DIRECTIONS + 1 + row] == out as u32
+        && book[cells::DIRECTIONS + 2 + row] == into as u32
+}
+
+// The same operators in order, or in opposite order under the other model.
+fn direction_clashes(book: &Book, direction: u32, out: u8, into: u8, model: u8) -> bool
+    requires { ⌜ direction < 24 ⌝ }
+    ensures { λ r. ⌜ r ≡ clashes out into model (directionAt (now (book .entry)) direction) ⌝ }
+{
+    if same_operators(book, direction, out, into) {
+        return true;
+    }
+    if same_operators(book, direction, into, out) {
+        return book[cells::DIRECTIONS + 3 + direction as usize * 3] != model as u32;
+    }
+    false
+}
+
+fn direction_taken(book: &Book, out: u8, into: u8, model: u8) -> bool
+    ensures { λ r. ⌜ r ≡ directionTaken out into model (bookOf (now (book .entry)) .directions) ⌝ }
+{
+    let count = cells::count_in(book, cells::DIRECTIONS, MOST_DIRECTIONS);
+    for k in 0..count {
+        if direction_clashes(book, k, out, into, model) {
+            return true;
+        }
+    }
+    false
+}
+
+fn directions_full(book: &Book) -> bool
+    ensures { λ r. ⌜ r ≡ leb 24 (length (bookOf (now (book .entry)) .directions)) ⌝ }
+{
+    MOST_DIRECTIONS <= cells::count_in(book, cells::DIRECTIONS, MOST_DIRECTIONS)
+}
+
+fn direction_verdict(book: &Book, out: u8, into: u8, model: u8) -> Verdict
+    ensures { λ r. ⌜ Judged (bookOf (now (book .entry))) (AddDirection out into model) r ⌝ }
+{
+    if direction_field(out, into, model) {
+        return Verdict::No(Answer::Field);
+    }
+    if setup_shut(book) {
+        return Verdict::No(Answer::SetupShut);
+    }
+    if direction_taken(book, out, into, model) {
+        return Verdict::No(Answer::Taken);
+    }
+    if directions_full(book) {
+        return Verdict::No(Answer::Full);
+    }
+    Verdict::Clear
+}
+
+pub fn add_direction(book: &mut Book, out: u8, into: u8, model: u8) -> Answer
+    ensures { λ r. ⌜ Answers (now (book .entry)) (AddDirection out into model) r (now (book .exit)) ⌝ }
+{
+    let verdict = direction_verdict(book, out, into, model);
+    match verdict {
+        Verdict::No(answer) => answer,
+        Verdict::Clear => {
+            let row = [out as u32, into as u32, model as u32];
+            Answer::Granted(place_row(book, cells::DIRECTIONS, MOST_DIRECTIONS, &row))
+        }
+    }
+}
+
+// ---- profiles
+fn profile_field(map: u32) -> bool
+    ensures { λ r. ⌜ r ≡ ltb (ones map) 2 ⌝ }
+{
+    u32::count_ones(map) < 2
+}
+
+// A bit of a direction that is not there.
+fn profile_unknown(book: &Book, map: u32) -> bool
+    ensures { λ r. ⌜ r ≡ leb (2 ^ length (bookOf (now (book .entry)) .directions)) map ⌝ }
+{
+    let count = cells::count_in(book, cells::DIRECTIONS, MOST_DIRECTIONS);
+    (map >> count) != 0
+}
+
+fn profiles_full(book: &Book) -> bool
+    ensures { λ r. ⌜ r ≡ leb 8 (length (bookOf (now (book .entry)) .profiles)) ⌝ }
+{
+    MOST_PROFILES <= cells::count_in(book, cells::PROFILES, MOST_PROFILES)
+}
+
+fn profile_verdict(book: &Book, map: u32) -> Verdict
+    ensures { λ r. ⌜ Judged (bookOf (now (book .entry))) (AddProfile map) r ⌝ }
+{
+    if profile_field(map) {
+        return Verdict::No(Answer::Field);
+    }
+    if setup_shut(book) {
+        return Verdict::No(Answer::SetupShut);
+    }
+    if profile_unknown(book, map) {
+        return Verdict::No(Answer::Unknown);
+    }
+    if profiles_full(book) {
+        return Verdict::No(Answer::Full);
+    }
+    Verdict::Clear
+}
+
+pub fn add_profile(book: &mut Book, map: u32) -> Answer
+    ensures { λ r. ⌜ Answers (now (book .entry)) (AddProfile map) r (now (book .exit)) ⌝ }
+{
+    let verdict = profile_verdict(book, map);
+    match verdict {
+        Verdict::No(answer) => answer,
+        Verdict::Clear => {
+            let row = [map];
+            Answer::Granted(place_row(book, cells::PROFILES, MOST_PROFILES, &row))
+        }
+    }
+}
+
+// ---- parties
+fn party_field(code: [u8; 16], access: u8) -> bool
+    ensures { λ r. ⌜ r ≡ (eqb access 0 || ltb 127 access || not (isCode code)) ⌝ }
+{
+    if access == 0 {
+        return true;
+    }
+    if access > 127 {
+        return true;
+    }
+    !eic::is_party_code(code)
+}
+
+fn same_code(book: &Book, party: u32, code: [u8; 16]) -> bool
+    requires { ⌜ party < 64 ⌝ }
+    ensures { λ r. ⌜ r ≡ sameCode code (partyAt (now (book .entry)) party) ⌝ }
+{
+    let at = cells::PARTIES + 1 + party as usize * 17;
+    for k in 0..16 {
+        if book[at + k] != code[k] as u32 {
+            return false;
+        }
+    }
+    true
+}
+
+fn code_taken(book: &Book, code: [u8; 16]) -> bool
+    ensures { λ r. ⌜ r ≡ codeTaken code (bookOf (now (book .entry)) .parties) ⌝ }
+{
+    let count = cells::count_in(book, cells::PARTIES, MOST_PARTIES);
+    for k in 0..count {
+        if same_code(book, k, code) {
+            return true;
+        }
+    }
+    false
+}
+
+fn parties_full(book: &Book) -> bool
+    ensures { λ r. ⌜ r ≡ leb 64 (length (bookOf (now (book .entry)) .parties)) ⌝ }
+{
+    MOST_PARTIES <= cells::count_in(book, cells::PARTIES, MOST_PARTIES)
+}
+
+fn party_verdict(book: &Book, code: [u8; 16], access: u8) -> Verdict
+    ensures { λ r. ⌜ Judged (bookOf (now (book .entry))) (AddParty code access) r ⌝ }
+{
+    if party_field(code, access) {
+        return Verdict::No(Answer::Field);
+    }
+    if setup_shut(book) {
+        return Verdict::No(Answer::SetupShut);
+    }
+    if code_taken(book, code) {
+        return Verdict::No(Answer::Taken);
+    }
+    if parties_full(book) {
+        return Verdict::No(Answer::Full);
+    }
+    Verdict::Clear
+}
+
+// The cells of a party: its code and its access map.
+fn party_row(code: [u8; 16], access: u8) -> [u32; 17]
+    ensures { λ r. ⌜ r ≡ code ++ (access ∷ []) ⌝ }
+{
+    let mut row = [0u32; 17];
+    for k in 0..16 {
+        row[k] = code[k] as u32;
+    }
+    row[16] = access as u32;
+    row
+}
+
+pub fn add_party(book: &mut Book, code: [u8; 16], access: u8) -> Answer
+    ensures { λ r. ⌜ Answers (now (book .entry)) (AddParty code access) r (now (book .exit)) ⌝ }
+{
+    let verdict = party_verdict(book, code, access);
+    match verdict {
+        Verdict::No(answer) => answer,
+        Verdict::Clear => {
+            let row = party_row(code, access);
+            Answer::Granted(place_row(book, cells::PARTIES, MOST_PARTIES, &row))
+        }
+    }
+}
