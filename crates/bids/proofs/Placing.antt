@@ -2,15 +2,14 @@
 -- Assumes nothing.
 use Prim.Native.Nat.{ℕ, _+_, _≤_, _<_}
 use mathlib.Core.Path.{_≡_, refl, sym, ap, _∙_}
-use mathlib.Core.Bool.{Bool, true, false, _||_, _&&_, not}
+use mathlib.Core.Bool.{true, false, _||_, _&&_, not}
 use mathlib.Core.List.{List}
-use native.Mathlib.Omega.{arith}
 use lib.Dec.{leb, eqb}
 use lib.ListN.{length, getD, drop}
 use borrow.Author.Tests.{eq-eqb}
 use Rattle.rules.specs.Basics.{has, anyAbove}
 use Rattle.rules.specs.Sessions.{sessionThere, firstHour, hoursIn, firstHourThere}
-use Rattle.rules.specs.Book.{Book, Right, modelOf, direction}
+use Rattle.rules.specs.Book.{Book, Right, modelOf}
 use Rattle.rules.specs.Calls.{Bid}
 use Rattle.rules.specs.Said.{said}
 use Rattle.rules.specs.Bids.{isShort, shortage, withBid, rightTaken, withRight, rightNumber}
@@ -20,7 +19,7 @@ use Rattle.rules.specs.Details.{detail}
 use Rattle.rules.specs.declared.Answer.the-variants.{Granted}
 use Rattle.rules.proofs.Bools.{or-left, or-true}
 use Rattle.rules.proofs.Decisions.{is-granted, fails}
-use Rattle.cells.specs.Layout.{CELLS, PROFILES}
+use Rattle.cells.specs.Layout.{PROFILES}
 use Rattle.cells.specs.View.{Cells, counted, dayHoursIn, directionAt, bookOf}
 use Rattle.cells.specs.Bids.{grantedHours}
 use Rattle.cells.specs.Stores.{clocked}

@@ -1,16 +1,16 @@
 -- The search for a standing right is the rules' search, and its right, raised or new, is the right of the rules.
 -- Assumes nothing.
 use Prim.Native.Nat.{ℕ, zero, suc, _+_, _*_, _%_, _≤_, _<_}
-use mathlib.Core.Path.{_≡_, refl, sym, ap, _∙_, subst}
-use mathlib.Core.Bool.{Bool, true, false, cond, _||_, _&&_, not, true≢false}
+use mathlib.Core.Path.{_≡_, refl, sym, ap, _∙_}
+use mathlib.Core.Bool.{Bool, true, false, cond, _||_, _&&_, true≢false}
 use mathlib.Core.List.{List, [], _∷_, _++_}
 use native.Mathlib.Omega.{arith}
 use native.Mathlib.Nat.{zero-add}
 use lib.Dec.{leb, ltb, eqb, leb·suc-suc}
 use lib.ListN.{length, getD, set}
 use borrow.Author.Tests.{ltb-true, ltb-false, lt-ltb, le-ltb, leb-false}
-use Rattle.rules.specs.Book.{Right, right}
-use Rattle.rules.specs.Bids.{isRightOf, rightTaken, addedRight, withRight, rightNumber}
+use Rattle.rules.specs.Book.{Right}
+use Rattle.rules.specs.Bids.{isRightOf, rightTaken, withRight, rightNumber}
 use Rattle.cells.specs.Layout.{CELLS, RIGHTS}
 use Rattle.cells.specs.Loops.{each, rows}
 use Rattle.cells.specs.View.{cell, cellFrom, part, counted, rightAt, rightsIn, bookOf}

@@ -1,7 +1,7 @@
 -- What the tests of a bid find in cells, as the rules find it in the book.
 -- Assumes nothing.
 use Prim.Native.Nat.{ℕ, _+_, _-_, _/_, _%_, _^_, _≤_, _<_}
-use mathlib.Core.Path.{_≡_, refl, sym, ap, _∙_}
+use mathlib.Core.Path.{_≡_, ap, _∙_}
 use mathlib.Core.Bool.{Bool, true, false, cond, not}
 use mathlib.Core.List.{List}
 use native.Mathlib.Nat.{le-trans, div-eq-of-lt}
@@ -12,7 +12,6 @@ use lib.Pow.{pow-mono}
 use borrow.Author.Tests.{leb-false, le-leb, lt-leb}
 use Rattle.rules.specs.Basics.{bit, noMw}
 use Rattle.rules.specs.Sessions.{sessionThere, firstHour, hoursIn, firstHourThere}
-use Rattle.rules.specs.Book.{Right, right}
 use Rattle.rules.specs.Bids.{shortage}
 use Rattle.rules.specs.Refusals.{order, firstOf, directionUnknown, sessionUnknown}
 use Rattle.rules.specs.Reads.{rightReadRefuses, readRight}
@@ -24,7 +23,7 @@ use Rattle.cells.proofs.Views.{direction-count, model-at, hours-within, right-c
 use Rattle.capacity.specs.Search.{Hours, shortageIn, found}
 use Rattle.capacity.specs.declared.Search.{Search}
 use Rattle.capacity.proofs.View.{shortage-view}
-use Rattle.answers.specs.Promises.{saidRight, ReadsRight}
+use Rattle.answers.specs.Promises.{saidRight}
 use Rattle.bids.specs.Work.{Session-known, Searched, rightIn}
 
 -- a number of 32 bits has no bit past them

@@ -1,19 +1,18 @@
 -- From the tests of a bid to the conditions of the rules.
 -- Assumes nothing.
-use Prim.Native.Nat.{ℕ, suc, _+_, _*_, _≤_, _<_}
+use Prim.Native.Nat.{ℕ, _+_, _*_, _≤_, _<_}
 use mathlib.Core.Path.{_≡_, refl, sym, ap, _∙_}
-use mathlib.Core.Bool.{Bool, true, false, _||_, _&&_, not}
+use mathlib.Core.Bool.{true, false, _||_, _&&_, not}
 use mathlib.Core.List.{List, [], _∷_}
 use native.Mathlib.Omega.{arith}
 use native.Mathlib.Numerals.{one-add}
-use lib.Dec.{leb}
-use lib.ListN.{length, getD, drop}
+use lib.ListN.{length, drop}
 use borrow.Author.Tests.{leb-false, not-false}
 use Rattle.rules.specs.Basics.{bit, anyAbove}
 use Rattle.rules.specs.Sessions.{sessionThere, hoursIn}
 use Rattle.rules.specs.Book.{Book, modelOf, party, direction}
 use Rattle.rules.specs.Calls.{Call, Bid}
-use Rattle.rules.specs.Said.{said, limitNumber}
+use Rattle.rules.specs.Said.{said}
 use Rattle.rules.specs.Bids.{Shortage, isShort}
 use Rattle.rules.specs.Details.{shortHourOf, shortLimitOf, refusal}
 use Rattle.rules.specs.Refusals.{order, firstOf, setupShut, taken, notOwner, cycle, below, partyUnknown, directionUnknown, sessionUnknown, refuses, noAccess, shortageOf}
@@ -23,7 +22,7 @@ use Rattle.rules.specs.declared.Limit.the-variants.{Direction, Profile}
 use Rattle.rules.specs.declared.Answer.the-variants.{Short}
 use Rattle.rules.proofs.Bools.{or-left, or-right}
 use Rattle.cells.specs.Layout.{DIRECTIONS, PARTIES}
-use Rattle.cells.specs.View.{cell, counted, dayHoursIn, directionAt, bookOf}
+use Rattle.cells.specs.View.{cell, counted, directionAt, bookOf}
 use Rattle.cells.proofs.Views.{party-count, access-at, direction-at, model-at}
 use Rattle.capacity.specs.Search.{found}
 use Rattle.capacity.specs.declared.Search.{Search}

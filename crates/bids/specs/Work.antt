@@ -2,11 +2,10 @@
 -- Assumes nothing.
 use Prim.Native.Nat.{ℕ, _+_, _*_, _%_, _≤_, _<_}
 use mathlib.Core.Path.{_≡_}
-use mathlib.Core.Bool.{Bool, true, cond}
+use mathlib.Core.Bool.{true, cond}
 use mathlib.Core.List.{List, [], _∷_}
 use lib.ListN.{length, getD}
 use Rattle.rules.specs.Sessions.{sessionThere, firstHour, hoursIn}
-use Rattle.rules.specs.Book.{Right, modelOf}
 use Rattle.rules.specs.Bids.{shortage, isRightOf, withRight, rightNumber}
 use Rattle.rules.specs.Calls.{Bid}
 use Rattle.rules.specs.Effects.{effect}
@@ -14,7 +13,7 @@ use Rattle.rules.specs.Details.{detail}
 use Rattle.rules.specs.declared.Answer.the-variants.{Granted}
 use Rattle.cells.specs.Layout.{CELLS, RIGHTS}
 use Rattle.cells.specs.Loops.{each}
-use Rattle.cells.specs.View.{cell, counted, rightAt, bookOf, Cells}
+use Rattle.cells.specs.View.{counted, rightAt, bookOf, Cells}
 use Rattle.cells.specs.Stores.{withRow}
 use Rattle.cells.specs.Updates.{withRights}
 use Rattle.capacity.specs.Search.{found}

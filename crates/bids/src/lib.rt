@@ -1,20 +1,19 @@
 // Bids, and the read of a right. A bid is checked whole before anything is stored.
 ghost use mathlib.Core.Path.{_≡_};
 ghost use mathlib.Core.Bool.{true, false, _||_, _&&_, not};
-ghost use Prim.Native.Nat.{ℕ, _+_, _*_, _<_, _≤_};
+ghost use Prim.Native.Nat.{_+_, _*_, _<_, _≤_};
 ghost use lib.Dec.{leb, ltb, eqb};
 ghost use lib.ListN.{length, drop};
 ghost use Rattle.rules.specs.Basics.{bit, anyAbove};
-ghost use Rattle.rules.specs.Sessions.{sessionThere, firstHour, hoursIn};
+ghost use Rattle.rules.specs.Sessions.{hoursIn};
 ghost use Rattle.rules.specs.Windows.{latest, bidOutside};
 ghost use Rattle.rules.specs.Calls.{Bid};
 ghost use Rattle.rules.specs.Bids.{isRightOf, rightTaken};
 ghost use Rattle.rules.specs.Refusals.{partyUnknown, directionUnknown, sessionUnknown, number};
 ghost use Rattle.cells.specs.Layout.{PARTIES, RIGHTS};
-ghost use Rattle.cells.specs.View.{cell, bookOf, counted, dayHoursIn, directionAt, rightAt};
+ghost use Rattle.cells.specs.View.{cell, bookOf, counted, directionAt, rightAt};
 ghost use Rattle.answers.specs.Promises.{Judged, Answers, ReadsRight};
 ghost use Rattle.bids.specs.Work.{standingIn, Session-known, Searched, Opened, Booked, Placed, rightIn};
-
 use answers::RightRead;
 use answers::Verdict;
 use capacity::Search;
@@ -222,7 +221,14 @@ fn take_right(book: &mut Book, holder: u8, direction: u8, session: u8, mw: [u16;
 }
 
 // The right of a granted bid, by the model of its direction: its number.
-fn book_right(book: &mut Book, model: u32, holder: u8, direction: u8, session: u8, mw: [u16; 5]) -> u32
+fn book_right(
+    book: &mut Book,
+    model: u32,
+    holder: u8,
+    direction: u8,
+    session: u8,
+    mw: [u16; 5],
+) -> u32
     requires { ⌜ (leb 512 (length (bookOf (now book) .rights)) && (eqb model 1 || not (rightTaken holder direction session (bookOf (now book) .rights)))) ≡ false ⌝ }
     ensures { λ r. ⌜ Booked (now (book .entry)) model holder direction session mw r (now (book .exit)) ⌝ }
 {
@@ -233,7 +239,14 @@ fn book_right(book: &mut Book, model: u32, holder: u8, direction: u8, session: u
 }
 
 // The stores of a granted bid: the number of its right.
-fn place_bid(book: &mut Book, time: u32, party: u8, direction: u8, session: Session, mw: [u16; 5]) -> u32
+fn place_bid(
+    book: &mut Book,
+    time: u32,
+    party: u8,
+    direction: u8,
+    session: Session,
+    mw: [u16; 5],
+) -> u32
     requires { ⌜ number (bookOf (now book)) (Bid time party direction (session .0) mw) ≡ 0 ⌝ }
     ensures { λ r. ⌜ Placed (now (book .entry)) time party direction (session .0) mw r (now (book .exit)) ⌝ }
 {

@@ -1,6 +1,9 @@
 // The sessions of both models on days of 23, 24 and 25 hours.
-use crate::print::{Tally, counted, fill};
-use rules::{Hour, Session};
+use crate::print::Tally;
+use crate::print::counted;
+use crate::print::fill;
+use rules::Hour;
+use rules::Session;
 ghost use Prim.Native.Nat.{_<_};
 
 // A session's first hour, its last, and how many hours it has: none where there is no such session.
@@ -53,7 +56,12 @@ fn print_session(plan: Plan, session: u8) {
 fn session_case(tally: Tally, plan: Plan, session: u8, expected: Span) -> Tally {
     let first = day::first_hour(plan.hours, plan.model, Session(session)).0;
     let count = count_found(plan, Session(session));
-    let numbers = [count as u64, first as u64, expected.2 as u64, expected.0 as u64];
+    let numbers = [
+        count as u64,
+        first as u64,
+        expected.2 as u64,
+        expected.0 as u64,
+    ];
     print_session(plan, session);
     fill(b": # hours from #, expected # hours from #", &numbers);
     counted(tally, (first == expected.0) & (count == expected.2))

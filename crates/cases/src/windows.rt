@@ -1,7 +1,13 @@
 // Every window at the minutes about its gates, on Mondays, Tuesdays and Wednesdays.
-use crate::print::{Tally, counted, fill, number, text, word};
+use crate::print::Tally;
+use crate::print::counted;
+use crate::print::fill;
+use crate::print::number;
+use crate::print::text;
+use crate::print::word;
 use crate::sessions::four_hour_span;
-use rules::{Hour, Session};
+use rules::Hour;
+use rules::Session;
 
 const OFFERS_OPEN: u32 = 960;
 
@@ -121,7 +127,10 @@ fn print_place(place: Place, window: usize) {
     ];
     word(b"|Monday|Tuesday|Wednesday", place.weekday as usize);
     fill(b" # hours, #-hour session #, hour #, ", &numbers);
-    word(b"bids: |nominations: |offers: |offers for a profile: |matching: ", window);
+    word(
+        b"bids: |nominations: |offers: |offers for a profile: |matching: ",
+        window,
+    );
 }
 
 // Prints what comes out at a minute, and answers whether it was expected.

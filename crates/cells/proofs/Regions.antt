@@ -3,12 +3,10 @@
 use Prim.Native.Nat.{ℕ, _+_, _*_, _≤_, _<_, min}
 use mathlib.Core.Path.{_≡_, _∙_}
 use mathlib.Core.Logic.{_≢_}
-use mathlib.Core.Bool.{true}
 use mathlib.Core.List.{List, [], _∷_, _++_}
 use native.Mathlib.Nat.{le-trans, lt-of-lt-of-le}
 use native.Mathlib.Omega.{arith}
 use lib.Dec.{lit≤, lit<}
-use Rattle.rules.specs.Book.{Direction, Party, Right, Pair, Book}
 use Rattle.cells.specs.Updates.{withDirections, withProfiles, withParties, withOffered, withGranted, withRights, withPairs, withMatched}
 use Rattle.cells.specs.Loops.{rows}
 use Rattle.cells.specs.Layout.{CELLS, DIRECTIONS, PROFILES, PARTIES, OFFERED, GRANTED, MATCHED, RIGHTS, PAIRS}

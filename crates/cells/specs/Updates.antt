@@ -158,4 +158,3 @@ withClock b x =
       pairs = b .pairs;
       matched = b .matched;
     }
-

@@ -3,7 +3,6 @@ ghost use mathlib.Core.Path.{_≡_};
 ghost use Rattle.rules.specs.Said.{said, saidNumbers};
 ghost use Rattle.rules.specs.Calls.{AddDirection, AddProfile, AddParty, OfferDirection, OfferProfile, Bid};
 ghost use Rattle.answers.specs.Promises.{Opens, Answers, ReadsDirection, ReadsProfile, ReadsRight};
-
 use answers::LeftRead;
 use answers::RightRead;
 use cells::Book;

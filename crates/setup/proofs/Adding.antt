@@ -18,9 +18,8 @@ use Rattle.rules.specs.declared.Answer.{Answer}
 use Rattle.rules.specs.declared.Answer.the-variants.{Granted}
 use Rattle.rules.proofs.Decisions.{is-granted, fails}
 use Rattle.cells.specs.Layout.{CELLS, DIRECTIONS, PROFILES, PARTIES}
-use Rattle.cells.specs.View.{bookOf, counted, partyAt, partiesIn}
+use Rattle.cells.specs.View.{bookOf, counted}
 use Rattle.cells.specs.Stores.{withRow}
-use Rattle.cells.proofs.Rows.{rows-length}
 use Rattle.cells.specs.Updates.{withDirections, withProfiles, withParties}
 use Rattle.cells.proofs.Tables.{direction-more, profile-more, party-more}
 use Rattle.cells.proofs.Views.{direction-count, profile-count, party-count}

@@ -11,36 +11,17 @@ use Rattle.bids.proofs.Placing.{bid-answers}
 use borrow.Author.Needs.{needs}
 use Rattle.bids.proofs.bid.Statement.{statement}
 use Rattle.bids.proofs.bid.Tie as tie
-use Rattle.bids.proofs.bid.Reads as reads
-use Rattle.bids.proofs.bid.Lts as lts
-use Rattle.bids.proofs.bid_verdict.Reads as bid-verdict-reads
-use Rattle.bids.proofs.place_bid.Reads as place-bid-reads
 
 -- nothing is against the bid
 clear : (c : tie.After-place-bid-arg) → let a = c .before .before .before .before .before .args in number (bookOf (now (a .book))) (Bid (a .time) (a .party) (a .direction) (a .session .0) (a .mw)) ≡ 0
 clear c = subst (Judged _ _) (c .before .enum-told .given .1) (c .before .before .before .bid-verdict .ensures)
 
--- src/lib.rt:261:9
-bid-verdict-requires : tie.Need-bid-verdict-requires
-bid-verdict-requires c κs = search needs
-
--- src/lib.rt:263:21
-enum-known-verdict : tie.Need-enum-known-verdict
-enum-known-verdict c = search needs
-
--- src/lib.rt:264:53
-enum-told : tie.Need-enum-told
-enum-told c = search needs
-
--- src/lib.rt:264:43
 place-bid-requires : tie.Need-place-bid-requires
 place-bid-requires c κs = clear c
 
--- src/lib.rt:251:1
 returns : tie.Need-returns
 returns c = refused _ _ _ (subst (Judged _ _) (c .before .verdict .given .1) (c .before .before .before .bid-verdict .ensures))
 
--- src/lib.rt:251:1
 returns-2 : tie.Need-returns-2
 returns-2 c = bid-answers _ _ _ _ _ _ _ _ (clear (c .before)) (c .place-bid .ensures)
 
@@ -48,9 +29,9 @@ pub bid-spec : {M : Type 1} → statement M
 bid-spec =
     tie.close
     (tie.spec
-    bid-verdict-requires
-    enum-known-verdict
-    enum-told
+    (λ c κs. search needs)
+    (λ c. search needs)
+    (λ c. search needs)
     place-bid-requires
     returns
     returns-2)

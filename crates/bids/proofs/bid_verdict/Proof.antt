@@ -5,28 +5,17 @@ use mathlib.Core.Path.{_≡_, refl, subst, _∙_}
 use mathlib.Core.List.{List, [], _∷_}
 use denote.Ref.{now}
 use Rattle.rules.specs.Calls.{Bid}
-use Rattle.rules.specs.Refusals.{refuses, field, clock, unknown, gate, hoursLacking, wrongHours, full, shortageOf}
+use Rattle.rules.specs.Refusals.{refuses, field, clock, unknown, gate, hoursLacking, wrongHours, full}
 use Rattle.rules.specs.Details.{refusal}
-use Rattle.rules.specs.declared.Answer.the-variants.{Field, Clock, Unknown, Gate, Hours, Access, Full, Short}
+use Rattle.rules.specs.declared.Answer.the-variants.{Field, Clock, Unknown, Gate, Hours, Access, Full}
 use Rattle.cells.specs.View.{bookOf}
 use Rattle.capacity.specs.declared.Search.{Search}
 use Rattle.answers.specs.Promises.{Judged}
-use Rattle.answers.proofs.Laws.{Left, pass, refuse, none-left, told}
+use Rattle.answers.proofs.Laws.{Left, pass, refuse, told}
 use Rattle.bids.proofs.Verdicts.{bid-left, KnownBid, known-bid, access-is, session-known, verdictOf, shortage-is, judged}
 use borrow.Author.Needs.{needs}
 use Rattle.bids.proofs.bid_verdict.Statement.{statement}
 use Rattle.bids.proofs.bid_verdict.Tie as tie
-use Rattle.bids.proofs.bid_verdict.Reads as reads
-use Rattle.bids.proofs.bid_verdict.Lts as lts
-use Rattle.answers.proofs.is_early.Reads as is-early-reads
-use Rattle.bids.proofs.bid_field.Reads as bid-field-reads
-use Rattle.bids.proofs.bid_shortage.Reads as bid-shortage-reads
-use Rattle.bids.proofs.bid_unknown.Reads as bid-unknown-reads
-use Rattle.bids.proofs.no_access.Reads as no-access-reads
-use Rattle.bids.proofs.outside.Reads as outside-reads
-use Rattle.bids.proofs.rights_full.Reads as rights-full-reads
-use Rattle.bids.proofs.wrong_hours.Reads as wrong-hours-reads
-use Rattle.cells.proofs.model_of.Reads as model-of-reads
 
 -- the numbers that are left to test
 abbrev To : tie.Start → List ℕ → Type 0
@@ -86,100 +75,56 @@ judge c =
     let m = c .before .before .before .before .before .before .before .before .before in
     judged _ _ (c .bid-shortage .result) (after7 (c .before)) (shortage-is _ (a .time) _ _ _ _ _ _ (knows (m .before)) (m .model-of .ensures) (c .bid-shortage .ensures))
 
--- src/lib.rt:159:8
-bid-field-requires : tie.Need-bid-field-requires
-bid-field-requires c κs = search needs
-
--- src/lib.rt:160:9
 returns : tie.Need-returns
 unfolding refuses field refusal
 returns c = refuse Field (start (c .before .before)) (told (c .before .bid-field .ensures) (c .if1 .taken)) refl refl
 
--- src/lib.rt:162:8
-is-early-requires : tie.Need-is-early-requires
-is-early-requires c κs = search needs
-
--- src/lib.rt:163:9
 returns-2 : tie.Need-returns-2
 unfolding refuses clock refusal
 returns-2 c = refuse Clock (after1 (c .before .before)) (told (c .before .is-early .ensures) (c .if2 .taken)) refl refl
 
--- src/lib.rt:165:8
-bid-unknown-requires : tie.Need-bid-unknown-requires
-bid-unknown-requires c κs = search needs
-
--- src/lib.rt:166:9
 returns-3 : tie.Need-returns-3
 unfolding refuses unknown refusal
 returns-3 c = refuse Unknown (after2 (c .before .before)) (told (c .before .bid-unknown .ensures) (c .if3 .taken)) refl refl
 
--- src/lib.rt:168:9
 model-of-requires : tie.Need-model-of-requires
 model-of-requires c κs = knows c .rows .1
 
--- src/lib.rt:169:8
-outside-requires : tie.Need-outside-requires
-outside-requires c κs = search needs
-
--- src/lib.rt:170:9
 returns-4 : tie.Need-returns-4
 unfolding refuses gate refusal
-returns-4 c = 
+returns-4 c =
     let m = c .before .before in
     refuse Gate (after3 (m .before)) (rw (knows (m .before) .model-is, ← m .model-of .ensures) (told (c .before .outside .ensures) (c .if4 .taken))) refl refl
 
--- src/lib.rt:172:8
-wrong-hours-requires : tie.Need-wrong-hours-requires
-wrong-hours-requires c κs = search needs
-
--- src/lib.rt:173:9
 returns-5 : tie.Need-returns-5
 unfolding refuses wrongHours hoursLacking refusal
-returns-5 c = 
+returns-5 c =
     let m = c .before .before .before .before in
     refuse Hours (after4 (c .before .before)) (rw (knows (m .before) .model-is, ← m .model-of .ensures) (told (c .before .wrong-hours .ensures) (c .if5 .taken))) refl refl
 
--- src/lib.rt:175:8
 no-access-requires : tie.Need-no-access-requires
 no-access-requires c κs = knows (c .before .before .before .before .before) .rows
 
--- src/lib.rt:176:9
 returns-6 : tie.Need-returns-6
 unfolding refuses refusal
-returns-6 c = 
+returns-6 c =
     let k = knows (c .before .before .before .before .before .before .before) in
     refuse Access (after5 (c .before .before)) (access-is _ _ _ _ _ _ k ∙ told (c .before .no-access .ensures) (c .if6 .taken)) refl refl
 
--- src/lib.rt:178:8
-rights-full-requires : tie.Need-rights-full-requires
-rights-full-requires c κs = search needs
-
--- src/lib.rt:179:9
 returns-7 : tie.Need-returns-7
 unfolding refuses full refusal
-returns-7 c = 
+returns-7 c =
     let m = c .before .before .before .before .before .before .before .before in
     refuse Full (after6 (c .before .before)) (rw (knows (m .before) .model-is, ← m .model-of .ensures) (told (c .before .rights-full .ensures) (c .if7 .taken))) refl refl
 
--- src/lib.rt:181:9
 bid-shortage-requires : tie.Need-bid-shortage-requires
-bid-shortage-requires c κs = 
+bid-shortage-requires c κs =
     let m = c .before .before .before .before .before .before .before .before in
     session-known _ _ _ _ _ _ (knows (m .before)) (m .model-of .ensures) (told (c .before .before .before .before .before .wrong-hours .ensures) (c .before .before .before .before .if5 .left))
 
--- src/lib.rt:183:23
-enum-known-search : tie.Need-enum-known-search
-enum-known-search c = search needs
-
--- src/lib.rt:184:27
-enum-told : tie.Need-enum-told
-enum-told c = search needs
-
--- src/lib.rt:149:1
 returns-8 : tie.Need-returns-8
 returns-8 c = subst (Says (c .before .before .before .before .before .before .before .before .before .before .before .before .before .before .before .before .before .before .before)) (c .before .search .given .1) (judge (c .before .before .before))
 
--- src/lib.rt:149:1
 returns-9 : tie.Need-returns-9
 returns-9 c = subst (Says (c .before .before .before .before .before .before .before .before .before .before .before .before .before .before .before .before .before .before)) (c .enum-told .given .1) (judge (c .before .before))
 
@@ -187,23 +132,23 @@ pub bid-verdict-spec : {M : Type 1} → statement M
 bid-verdict-spec =
     tie.close
     (tie.spec
-    bid-field-requires
+    (λ c κs. search needs)
     returns
-    is-early-requires
+    (λ c κs. search needs)
     returns-2
-    bid-unknown-requires
+    (λ c κs. search needs)
     returns-3
     model-of-requires
-    outside-requires
+    (λ c κs. search needs)
     returns-4
-    wrong-hours-requires
+    (λ c κs. search needs)
     returns-5
     no-access-requires
     returns-6
-    rights-full-requires
+    (λ c κs. search needs)
     returns-7
     bid-shortage-requires
-    enum-known-search
-    enum-told
+    (λ c. search needs)
+    (λ c. search needs)
     returns-8
     returns-9)

@@ -9,23 +9,15 @@ use Rattle.bids.proofs.Tests.{far-bit}
 use borrow.Author.Needs.{needs}
 use Rattle.bids.proofs.has_access.Statement.{statement}
 use Rattle.bids.proofs.has_access.Tie as tie
-use Rattle.bids.proofs.has_access.Reads as reads
-use Rattle.bids.proofs.has_access.Lts as lts
 
--- src/lib.rt:75:23
-shr-result : tie.Need-shr-result
-shr-result c = search needs
-
--- src/lib.rt:72:1
 returns : tie.Need-returns
 unfolding bit
 returns c = refl
 
--- src/lib.rt:72:1
 returns-2 : tie.Need-returns-2
-returns-2 c = 
+returns-2 c =
     let l : c .before .args .map < 2 ^ 32 = omega arith in
     rw (far-bit (c .before .args .map) (c .before .args .operator) l (c .if1 .left)) (le-ltb _ 32 (c .if1 .left))
 
 pub has-access-spec : {M : Type 1} → statement M
-has-access-spec = tie.close (tie.spec shr-result returns returns-2)
+has-access-spec = tie.close (tie.spec (λ c. search needs) returns returns-2)

@@ -10,52 +10,28 @@ use Rattle.bids.specs.declared.Found.the-variants.{Nothing}
 use Rattle.bids.specs.Work.{standingIn, tryRight}
 use Rattle.bids.proofs.standing.Statement.{statement}
 use Rattle.bids.proofs.standing.Tie as tie
-use Rattle.bids.proofs.standing.Reads as reads
-use Rattle.bids.proofs.standing.Lts as lts
-use Rattle.bids.proofs.same_right.Reads as same-right-reads
-use Rattle.cells.proofs.count_in.Reads as count-in-reads
 
 abbrev Inv-loop : tie.InvT-loop
-Inv-loop book holder direction session count i₀ i = 
+Inv-loop book holder direction session count i₀ i =
     ((i ≤ count) × (count ≤ 512)) × (standingIn book holder direction session ≡ each (tryRight book holder direction session) (count - i) i Nothing)
 
 abbrev μ-loop : tie.MeasureT-loop
 μ-loop book holder direction session count i₀ i = count - i
 
--- src/lib.rt:108:9
-count-in-requires : tie.Need-count-in-requires Inv-loop μ-loop
-count-in-requires c κs = search needs
-
--- src/lib.rt:109:5
 loop-holds : tie.Need-loop-holds Inv-loop μ-loop
 unfolding standingIn
 loop-holds c = (omega (arith, c .count-in .ensures), rw (c .count-in .ensures) (each-start _ _ _))
 
--- src/lib.rt:110:12
-same-right-requires : tie.Need-same-right-requires Inv-loop μ-loop
-same-right-requires c κs = search needs
-
--- src/lib.rt:111:13
 returns : tie.Need-returns Inv-loop μ-loop
 unfolding tryRight
-returns c = 
+returns c =
     sym (c .before .before .before .loop .inv .1 ∙ each-next _ _ _ _ (c .before .before .loop-test .taken) ∙ told-true _ _ (c .before .same-right .ensures) (c .if1 .taken))
 
--- src/lib.rt:109:9
-add-i : tie.Need-add-i Inv-loop μ-loop
-add-i c = search needs
-
--- src/lib.rt:109:5
-loop-less : tie.Need-loop-less Inv-loop μ-loop
-loop-less c = search needs
-
--- src/lib.rt:109:5
 loop-again : tie.Need-loop-again Inv-loop μ-loop
 unfolding tryRight
-loop-again c = 
+loop-again c =
     (search needs, c .before .before .before .loop .inv .1 ∙ each-next _ _ _ _ (c .before .before .loop-test .taken) ∙ told-false _ _ (c .before .same-right .ensures) (c .if1 .left))
 
--- src/lib.rt:105:1
 returns-2 : tie.Need-returns-2 Inv-loop μ-loop
 returns-2 c = sym (c .before .loop .inv .1 ∙ each-done _ _ _ _ (c .loop-test .left))
 
@@ -65,11 +41,11 @@ standing-spec =
     (tie.spec
     Inv-loop
     μ-loop
-    count-in-requires
+    (λ c κs. search needs)
     loop-holds
-    same-right-requires
+    (λ c κs. search needs)
     returns
-    add-i
-    loop-less
+    (λ c. search needs)
+    (λ c. search needs)
     loop-again
     returns-2)

@@ -1,3 +1,5 @@
+-- `capacity::add` meets its contract.
+-- Assumes nothing.
 use borrow.Author.Needs.{needs}
 use Rattle.capacity.proofs.add.Statement.{statement}
 use Rattle.capacity.proofs.add.Tie as tie

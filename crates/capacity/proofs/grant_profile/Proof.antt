@@ -1,3 +1,5 @@
+-- `capacity::grant_profile` meets its contract.
+-- Assumes nothing.
 use Rattle.cells.proofs.Turns.{told-true, told-false}
 use mathlib.Core.Path.{_≡_, sym, _∙_}
 use Rattle.cells.specs.Bids.{grantedProfile}

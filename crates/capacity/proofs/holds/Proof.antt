@@ -1,3 +1,5 @@
+-- `capacity::holds` meets its contract.
+-- Assumes nothing.
 use mathlib.Core.Path.{refl}
 use Rattle.rules.specs.Basics.{bit}
 use borrow.Author.Needs.{needs}

@@ -1,3 +1,5 @@
+-- `capacity::profile_short` meets its contract.
+-- Assumes nothing.
 use mathlib.Core.Path.{_∙_}
 use Rattle.capacity.specs.Search.{profileShortIn}
 use borrow.Author.Needs.{needs}

@@ -1,3 +1,5 @@
+-- `cells::cells_in` meets its contract.
+-- Assumes nothing.
 use mathlib.Core.Path.{_≡_}
 use denote.Ref.{now}
 use lib.ListN.{length}

@@ -1,3 +1,5 @@
+-- `cells::hours` meets its contract.
+-- Assumes nothing.
 use borrow.Author.Needs.{needs}
 use borrow.Author.Tests.{eq-eqb, ne-eqb}
 use Rattle.cells.specs.View.{dayHoursIn}

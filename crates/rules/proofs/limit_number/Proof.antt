@@ -1,3 +1,5 @@
+-- `rules::limit_number` meets its contract.
+-- Assumes nothing.
 use borrow.Author.Needs.{needs}
 use Rattle.rules.proofs.limit_number.Statement.{statement}
 use Rattle.rules.proofs.limit_number.Tie as tie

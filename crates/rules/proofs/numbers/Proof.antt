@@ -1,3 +1,5 @@
+-- `rules::numbers` meets its contract.
+-- Assumes nothing.
 use borrow.Author.Needs.{needs}
 use Rattle.rules.proofs.numbers.Statement.{statement}
 use Rattle.rules.proofs.numbers.Tie as tie

@@ -1,10 +1,9 @@
+-- `cases::windows::one_hour_cases` is safe and ends. The invariant: none is needed; the hours left fall.
+-- Assumes nothing.
 use borrow.Author.Needs.{needs}
 use Prim.Native.Nat.{_≤_, _-_}
 use Rattle.cases.proofs.windows.one_hour_cases.Statement.{statement}
 use Rattle.cases.proofs.windows.one_hour_cases.Tie as tie
-use Rattle.cases.proofs.windows.one_hour_cases.Reads as reads
-use Rattle.cases.proofs.windows.one_hour_cases.Lts as lts
-use Rattle.cases.proofs.windows.one_hour_session.Reads as one-hour-session-reads
 
 abbrev Inv-loop : tie.InvT-loop
 Inv-loop hours weekday tally₀ hour₀ tally hour = 0 ≤ hour
@@ -12,44 +11,16 @@ Inv-loop hours weekday tally₀ hour₀ tally hour = 0 ≤ hour
 abbrev μ-loop : tie.MeasureT-loop
 μ-loop hours weekday tally₀ hour₀ tally hour = hours - hour
 
--- src/windows.rt:253:5
-loop-holds : tie.Need-loop-holds Inv-loop μ-loop
-loop-holds c = search needs
-
--- src/windows.rt:261:9
-one-hour-session-requires : tie.Need-one-hour-session-requires Inv-loop μ-loop
-one-hour-session-requires c κs = search needs
-
--- src/windows.rt:253:9
-add-hour : tie.Need-add-hour Inv-loop μ-loop
-add-hour c = search needs
-
--- src/windows.rt:253:5
-loop-less : tie.Need-loop-less Inv-loop μ-loop
-loop-less c = search needs
-
--- src/windows.rt:253:5
-loop-again : tie.Need-loop-again Inv-loop μ-loop
-loop-again c = search needs
-
--- src/windows.rt:251:1
-returns : tie.Need-returns Inv-loop μ-loop
-returns c = search needs
-
--- src/windows.rt:251:1
-returns-2 : tie.Need-returns-2 Inv-loop μ-loop
-returns-2 c = search needs
-
 pub one-hour-cases-spec : {M : Type 1} → statement M
 one-hour-cases-spec =
     tie.close
     (tie.spec
     Inv-loop
     μ-loop
-    loop-holds
-    one-hour-session-requires
-    add-hour
-    loop-less
-    loop-again
-    returns
-    returns-2)
+    (λ c. search needs)
+    (λ c κs. search needs)
+    (λ c. search needs)
+    (λ c. search needs)
+    (λ c. search needs)
+    (λ c. search needs)
+    (λ c. search needs))

@@ -1,0 +1,25 @@
+use borrow.Author.Needs.{needs}
+use Prim.Native.Nat.{_≤_, _-_}
+use Rattle.bidrate.proofs.setup.add_parties.Statement.{statement}
+use Rattle.bidrate.proofs.setup.add_parties.Tie as tie
+
+abbrev Inv-loop : tie.InvT-loop
+Inv-loop book₀ counts₀ party₀ book counts party = party ≤ 64
+
+abbrev μ-loop : tie.MeasureT-loop
+μ-loop book₀ counts₀ party₀ book counts party = 64 - party
+
+pub add-parties-spec : {M : Type 1} → statement M
+add-parties-spec =
+    tie.close
+    (tie.spec
+    Inv-loop
+    μ-loop
+    (λ c. search needs)
+    (λ c κs. search needs)
+    (λ c κs. search needs)
+    (λ c κs. search needs)
+    (λ c. search needs)
+    (λ c. search needs)
+    (λ c. search needs)
+    (λ c. search needs))

@@ -1,0 +1,27 @@
+use borrow.Author.Needs.{needs}
+use Prim.Native.Nat.{_≤_, _-_}
+use Rattle.bidrate.proofs.setup.offer_directions.Statement.{statement}
+use Rattle.bidrate.proofs.setup.offer_directions.Tie as tie
+
+abbrev Inv-loop : tie.InvT-loop
+Inv-loop book₀ counts₀ k₀ book counts k = k ≤ 576
+
+abbrev μ-loop : tie.MeasureT-loop
+μ-loop book₀ counts₀ k₀ book counts k = 576 - k
+
+pub offer-directions-spec : {M : Type 1} → statement M
+offer-directions-spec =
+    tie.close
+    (tie.spec
+    Inv-loop
+    μ-loop
+    (λ c. search needs)
+    (λ c. search needs)
+    (λ c. search needs)
+    (λ c. search needs)
+    (λ c κs. search needs)
+    (λ c κs. search needs)
+    (λ c. search needs)
+    (λ c. search needs)
+    (λ c. search needs)
+    (λ c. search needs))
