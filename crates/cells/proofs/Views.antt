@@ -10,10 +10,9 @@ use lib.Dec.{eqb, leb, ltb, lit≤}
 use borrow.Author.Tests.{leb-false, ltb-false}
 use lib.ListN.{length, getD}
 use Rattle.rules.specs.Book.{Direction, Party, place, direction, party, right, leftAt, modelOf}
-use Rattle.rules.specs.Refusals.{order, firstOf, hourUnknown}
+use Rattle.rules.specs.Refusals.{hourUnknown}
 use Rattle.cells.specs.Layout.{DIRECTIONS, PROFILES, PARTIES, OFFERED, GRANTED, RIGHTS}
 use Rattle.cells.specs.View.{cell, counted, dayHoursIn, directionAt, directionsIn, profilesIn, partyAt, partiesIn, offeredIn, grantedIn, rightAt, rightsIn, bookOf}
-use Rattle.rules.specs.Reads.{directionReadRefuses, readDirection}
 use Rattle.rules.proofs.Bools.{or-left, or-right}
 use Rattle.cells.proofs.Rows.{rows-length, rows-at}
 use Rattle.cells.proofs.Stores.{part-at, part-length}
@@ -69,13 +68,6 @@ known b d hour e =
 
 pub slot : {b : List ℕ} {d hour : ℕ} → Known b d hour → (d < 32) × ((1 ≤ hour) × (hour ≤ 25))
 slot k = let l = k .row in (omega arith, (k .first, k .most))
-
-pub read-left : (b : List ℕ) (d hour : ℕ) → (leb (length (bookOf b .directions)) d || hourUnknown (bookOf b) hour) ≡ false
-    → readDirection (bookOf b) d hour ≡ record { number = 0; left = cell b (OFFERED + place d hour) - cell b (GRANTED + place d hour) }
-unfolding readDirection directionReadRefuses firstOf order
-read-left b d hour e =
-    let k = slot (known b d hour e) in
-    rw (e, offered-place b d hour k, granted-place b d hour k)
 
 -- capacity left
 pub left-at : (b : List ℕ) (l h : ℕ) → (l < 32) × ((1 ≤ h) × (h ≤ 25)) → leftAt (bookOf b) l h ≡ cell b (OFFERED + place l h) - cell b (GRANTED + place l h)
