@@ -12,13 +12,14 @@ use Rattle.rules.specs.Refusals.{number}
 use Rattle.rules.specs.Details.{refusal}
 use Rattle.rules.specs.Run.{applied}
 use Rattle.rules.specs.Opening.{opening}
-use Rattle.rules.specs.Reads.{LeftReply, readDirection, readProfile, RightReply, readRight}
+use Rattle.rules.specs.Reads.{LeftReply, readDirection, readProfile, RightReply, readRight, ConfirmedReply, readConfirmed}
 use Rattle.rules.specs.declared.Answer.{Answer}
 use Rattle.cells.specs.View.{bookOf}
 use Rattle.answers.specs.declared.Verdict.{Verdict}
 use Rattle.answers.specs.declared.Verdict.the-variants.{Clear, No}
 use Rattle.answers.specs.declared.LeftRead.{LeftRead}
 use Rattle.answers.specs.declared.RightRead.{RightRead}
+use Rattle.answers.specs.declared.ConfirmedRead.{ConfirmedRead}
 
 -- an opening hands back the book of the rules' opening, whatever the cells held
 pub record Opens (n day : ℕ) (r : Answer) (after : List ℕ) : Type 0 where
@@ -56,3 +57,9 @@ saidRight r =
 
 pub record ReadsRight (cells : List ℕ) (right : ℕ) (r : RightRead) : Type 0 where
   pub reply : saidRight r ≡ readRight (bookOf cells) right
+
+abbrev pub saidConfirmed : ConfirmedRead → ConfirmedReply
+saidConfirmed r = record { number = said (r .answer) .number; mw = r .mw }
+
+pub record ReadsConfirmed (cells : List ℕ) (right out into : ℕ) (r : ConfirmedRead) : Type 0 where
+  pub reply : saidConfirmed r ≡ readConfirmed (bookOf cells) right out into

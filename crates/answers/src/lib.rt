@@ -29,6 +29,12 @@ pub struct RightRead {
     pub mw: [u32; 5],
 }
 
+// The confirmed MW of a pair; zeros where refused.
+pub struct ConfirmedRead {
+    pub answer: Answer,
+    pub mw: [u32; 5],
+}
+
 // The difference, or 0.
 pub fn less(a: u32, b: u32) -> u32
     ensures { λ r. ⌜ r ≡ a - b ⌝ }

@@ -1,8 +1,8 @@
 // Codes of the published lists: those of parties are accepted, those of areas and misprints are refused.
-use crate::print::Tally;
-use crate::print::counted;
-use crate::print::text;
-use crate::print::word;
+use printing::Tally;
+use printing::counted;
+use printing::text;
+use printing::word;
 ghost use Prim.Native.Nat.{_+_, _≤_};
 ghost use lib.ListN.{length};
 

@@ -7,7 +7,7 @@ use mathlib.Core.List.{List, [], _∷_, _++_}
 use native.Mathlib.Nat.{le-trans, lt-of-lt-of-le}
 use native.Mathlib.Omega.{arith}
 use lib.Dec.{lit≤, lit<}
-use Rattle.cells.specs.Updates.{withDirections, withProfiles, withParties, withOffered, withGranted, withRights}
+use Rattle.cells.specs.Updates.{withDirections, withProfiles, withParties, withOffered, withGranted, withRights, withPairs, withMatched}
 use Rattle.cells.specs.Loops.{rows}
 use Rattle.cells.specs.Layout.{CELLS, DIRECTIONS, PROFILES, PARTIES, OFFERED, GRANTED, MATCHED, RIGHTS, PAIRS}
 use Rattle.cells.specs.View.{cell, cellFrom, part, counted, dayHoursIn, weekdayIn, startedIn, clockIn, directionAt, directionsIn, profilesIn, partyAt, partiesIn, offeredIn, grantedIn, matchedIn, rightAt, rightsIn, pairAt, pairsIn, bookOf}
@@ -136,6 +136,16 @@ module _ (b b′ : List ℕ) where
   unfolding bookOf
   only-rights w =
       rw (hours-agree (under w (lit≤ tt)), weekday-agree (under w (lit≤ tt)), started-agree (under w (lit≤ tt)), clock-agree (under w (lit≤ tt)), directions-agree (under w (lit≤ tt)), profiles-agree (under w (lit≤ tt)), parties-agree (under w (lit≤ tt)), offered-agree (under w (lit≤ tt)), granted-agree (under w (lit≤ tt)), pairs-agree (over w (lit≤ tt)), matched-agree (under w (lit≤ tt)))
+
+  pub only-pairs : Within PAIRS CELLS b b′ → bookOf b′ ≡ withPairs (bookOf b) (pairsIn b′)
+  unfolding bookOf
+  only-pairs w =
+      rw (hours-agree (under w (lit≤ tt)), weekday-agree (under w (lit≤ tt)), started-agree (under w (lit≤ tt)), clock-agree (under w (lit≤ tt)), directions-agree (under w (lit≤ tt)), profiles-agree (under w (lit≤ tt)), parties-agree (under w (lit≤ tt)), offered-agree (under w (lit≤ tt)), granted-agree (under w (lit≤ tt)), rights-agree (under w (lit≤ tt)), matched-agree (under w (lit≤ tt)))
+
+  pub only-matched : Within MATCHED RIGHTS b b′ → bookOf b′ ≡ withMatched (bookOf b) (matchedIn b′)
+  unfolding bookOf
+  only-matched w =
+      rw (hours-agree (under w (lit≤ tt)), weekday-agree (under w (lit≤ tt)), started-agree (under w (lit≤ tt)), clock-agree (under w (lit≤ tt)), directions-agree (under w (lit≤ tt)), profiles-agree (under w (lit≤ tt)), parties-agree (under w (lit≤ tt)), offered-agree (under w (lit≤ tt)), granted-agree (under w (lit≤ tt)), rights-agree (over w (lit≤ tt)), pairs-agree (over w (lit≤ tt)))
 
   pub only-clock : Within 2 4 b b′ → bookOf b′ ≡ record { hours = bookOf b .hours; weekday = bookOf b .weekday; started = startedIn b′; clock = clockIn b′; directions = bookOf b .directions; profiles = bookOf b .profiles; parties = bookOf b .parties; offered = bookOf b .offered; granted = bookOf b .granted; rights = bookOf b .rights; pairs = bookOf b .pairs; matched = bookOf b .matched }
   unfolding bookOf

@@ -16,8 +16,8 @@ use Rattle.cells.specs.Loops.{rows}
 use Rattle.cells.specs.View.{cell, cellFrom, part, dayHoursIn, weekdayIn, directionsIn, profilesIn, partiesIn, offeredIn, grantedIn, matchedIn, rightsIn, pairsIn, bookOf}
 use Rattle.cells.specs.Stores.{clocked, emptied}
 use Rattle.cells.proofs.Rows.{rows-length, rows-at, rows-set}
-use Rattle.cells.proofs.Regions.{Within, within-more, only-offered, only-clock}
-use Rattle.cells.specs.Updates.{withOffered, withClock}
+use Rattle.cells.proofs.Regions.{Within, within-more, only-offered, only-matched, only-clock}
+use Rattle.cells.specs.Updates.{withOffered, withMatched, withClock}
 
 -- ---- one cell
 
@@ -50,6 +50,12 @@ unfolding bookOf offeredIn
 offered-set b i v l u =
     only-offered b (set b (OFFERED + i) v) (set-within b (OFFERED + i) v OFFERED GRANTED (omega arith) (omega arith))
     ∙ ap (λ (x : List ℕ). withOffered (bookOf b) x) (part-set b OFFERED 800 i v l (omega arith))
+
+pub matched-set : (b : List ℕ) (i v : ℕ) → i < 600 → length b ≡ CELLS → bookOf (set b (MATCHED + i) v) ≡ withMatched (bookOf b) (set (bookOf b .matched) i v)
+unfolding bookOf matchedIn
+matched-set b i v l u =
+    only-matched b (set b (MATCHED + i) v) (set-within b (MATCHED + i) v MATCHED RIGHTS (omega arith) (omega arith))
+    ∙ ap (λ (x : List ℕ). withMatched (bookOf b) x) (part-set b MATCHED 600 i v l (omega arith))
 
 pub clock-set : (b : List ℕ) (time : ℕ) → length b ≡ CELLS → bookOf (clocked time b) ≡ withClock (bookOf b) time
 unfolding bookOf

@@ -8,11 +8,11 @@ use native.Mathlib.Omega.{arith}
 use native.Mathlib.Nat.{zero-add}
 use lib.Dec.{eqb, leb, ltb, lit≤}
 use borrow.Author.Tests.{leb-false, ltb-false}
-use lib.ListN.{length, getD}
+use lib.ListN.{length, getD, List·getD-eq-default}
 use Rattle.rules.specs.Book.{Direction, Party, place, direction, party, right, leftAt, modelOf}
 use Rattle.rules.specs.Refusals.{hourUnknown}
-use Rattle.cells.specs.Layout.{DIRECTIONS, PROFILES, PARTIES, OFFERED, GRANTED, RIGHTS}
-use Rattle.cells.specs.View.{cell, counted, dayHoursIn, directionAt, directionsIn, profilesIn, partyAt, partiesIn, offeredIn, grantedIn, rightAt, rightsIn, bookOf}
+use Rattle.cells.specs.Layout.{DIRECTIONS, PROFILES, PARTIES, OFFERED, GRANTED, MATCHED, RIGHTS, PAIRS}
+use Rattle.cells.specs.View.{cell, part, counted, dayHoursIn, directionAt, directionsIn, profilesIn, partyAt, partiesIn, offeredIn, grantedIn, matchedIn, rightAt, rightsIn, pairAt, pairsIn, bookOf}
 use Rattle.rules.proofs.Bools.{or-left, or-right}
 use Rattle.cells.proofs.Rows.{rows-length, rows-at}
 use Rattle.cells.proofs.Stores.{part-at, part-length}
@@ -116,3 +116,17 @@ right-count b = rows-length (rightAt b) (counted b RIGHTS 512) 0
 pub right-at : (b : List ℕ) (r : ℕ) → r < counted b RIGHTS 512 → right (bookOf b .rights) r ≡ rightAt b r
 unfolding bookOf rightsIn
 right-at b r l = rows-at (rightAt b) (counted b RIGHTS 512) 0 r _ l ∙ ap (rightAt b) (zero-add r)
+
+-- ---- pairs and matched sessions
+
+pub pair-count : (b : List ℕ) → length (bookOf b .pairs) ≡ counted b PAIRS 512
+unfolding bookOf pairsIn
+pair-count b = rows-length (pairAt b) (counted b PAIRS 512) 0
+
+pub matched-at : (b : List ℕ) (i : ℕ) → i < 600 → getD (bookOf b .matched) i 0 ≡ cell b (MATCHED + i)
+unfolding bookOf matchedIn
+matched-at b i l = part-at b MATCHED 600 i l
+
+pub matched-past : (b : List ℕ) (i : ℕ) → 600 ≤ i → getD (bookOf b .matched) i 0 ≡ 0
+unfolding bookOf matchedIn
+matched-past b i l = List·getD-eq-default (part b MATCHED 600) 0 (rw (part-length b MATCHED 600) l)

@@ -3,7 +3,7 @@
 use Prim.Native.Nat.{ℕ}
 use mathlib.Core.Bool.{true}
 use mathlib.Core.List.{List}
-use Rattle.rules.specs.Book.{Direction, Party, Right, Book}
+use Rattle.rules.specs.Book.{Direction, Party, Right, Pair, Book}
 
 abbrev pub withDirections : Book → List Direction → Book
 withDirections b x =
@@ -105,6 +105,40 @@ withRights b x =
       rights = x;
       pairs = b .pairs;
       matched = b .matched;
+    }
+
+abbrev pub withPairs : Book → List Pair → Book
+withPairs b x =
+    record {
+      hours = b .hours;
+      weekday = b .weekday;
+      started = b .started;
+      clock = b .clock;
+      directions = b .directions;
+      profiles = b .profiles;
+      parties = b .parties;
+      offered = b .offered;
+      granted = b .granted;
+      rights = b .rights;
+      pairs = x;
+      matched = b .matched;
+    }
+
+abbrev pub withMatched : Book → List ℕ → Book
+withMatched b x =
+    record {
+      hours = b .hours;
+      weekday = b .weekday;
+      started = b .started;
+      clock = b .clock;
+      directions = b .directions;
+      profiles = b .profiles;
+      parties = b .parties;
+      offered = b .offered;
+      granted = b .granted;
+      rights = b .rights;
+      pairs = b .pairs;
+      matched = x;
     }
 
 -- a timed call shuts set-up, and its time is the clock's

@@ -3,9 +3,10 @@ ghost use mathlib.Core.Path.{_≡_};
 ghost use Prim.Native.Nat.{_+_, _*_, _-_, _<_, _≤_};
 ghost use lib.ListN.{length, set, getD};
 ghost use lib.Seq.{sets};
-ghost use Rattle.rules.specs.Book.{place};
-ghost use Rattle.cells.specs.Layout.{CELLS, OFFERED, GRANTED};
-ghost use Rattle.cells.specs.View.{Sound, Cells, counted, dayHoursIn, directionAt, startedIn, weekdayIn, clockIn};
+ghost use Rattle.rules.specs.Book.{place, flag};
+ghost use Rattle.rules.specs.Refusals.{isMatched};
+ghost use Rattle.cells.specs.Layout.{CELLS, OFFERED, GRANTED, MATCHED};
+ghost use Rattle.cells.specs.View.{Sound, Cells, bookOf, counted, dayHoursIn, directionAt, startedIn, weekdayIn, clockIn, rightAt};
 ghost use Rattle.cells.specs.Stores.{clocked, emptied, withRow};
 
 // The count of hours of the day.
@@ -35,10 +36,15 @@ pub const OFFERED_MW: usize = 1175;
 // The granted MW, in rows as those of the offers.
 pub const GRANTED_MW: usize = 1975;
 
-// A count, and 512 rows of 8: holder, direction, session, five MW. The cells before it, from 2775 on, are for matched sessions.
+// The matched sessions: 24 rows of 25 sessions, 1 where the session of the direction was matched.
+const MATCHED_SESSIONS: usize = 2775;
+
+// A count, and 512 rows of 8: holder, direction, session, five MW.
 pub const RIGHTS: usize = 3375;
 
-// The cells behind the rights, from 7472 on, are for pairs.
+// A count, and 512 rows of 13: right, out party, in party, five MW of the out side, five of the in side.
+pub const PAIRS: usize = 7472;
+
 pub type Book = [u32; 14129];
 
 // Each cell is a number of 32 bits.
@@ -121,6 +127,28 @@ pub fn model_of(book: &Book, direction: u8) -> u32
     book[DIRECTIONS + 3 + direction as usize * 3]
 }
 
+// The holder, the direction and the session of a right.
+pub fn right_holder(book: &Book, right: u16) -> u8
+    requires { ⌜ right < 512 ⌝ }
+    ensures { λ r. ⌜ r ≡ rightAt (now (book .entry)) right .holder ⌝ }
+{
+    (book[RIGHTS + 1 + right as usize * 8] % 256) as u8
+}
+
+pub fn right_direction(book: &Book, right: u16) -> u8
+    requires { ⌜ right < 512 ⌝ }
+    ensures { λ r. ⌜ r ≡ rightAt (now (book .entry)) right .direction ⌝ }
+{
+    (book[RIGHTS + 2 + right as usize * 8] % 256) as u8
+}
+
+pub fn right_session(book: &Book, right: u16) -> u8
+    requires { ⌜ right < 512 ⌝ }
+    ensures { λ r. ⌜ r ≡ rightAt (now (book .entry)) right .session ⌝ }
+{
+    (book[RIGHTS + 3 + right as usize * 8] % 256) as u8
+}
+
 pub fn offered_at(book: &Book, row: u8, hour: u8) -> u32
     requires { ⌜ (row < 32) × ((1 ≤ hour) × (hour ≤ 25)) ⌝ }
     ensures { λ r. ⌜ r ≡ getD (now (book .entry)) (OFFERED + place row hour) 0 ⌝ }
@@ -135,12 +163,39 @@ pub fn granted_at(book: &Book, row: u8, hour: u8) -> u32
     book[GRANTED_MW + (row as usize * 25 + (hour as usize - 1))]
 }
 
+// Where the flag of a direction's session stands among the matched sessions.
+fn flag_of(direction: u8, session: u8) -> usize
+    ensures { λ r. ⌜ r ≡ flag direction session ⌝ }
+{
+    let first = direction as usize * 25;
+    if session == 0 {
+        return first;
+    }
+    first + (session as usize - 1)
+}
+
+// The session of a direction was matched.
+pub fn is_matched(book: &Book, direction: u8, session: u8) -> bool
+    ensures { λ r. ⌜ r ≡ isMatched (bookOf (now (book .entry)) .matched) direction session ⌝ }
+{
+    let at = flag_of(direction, session);
+    at < 600 && book[MATCHED_SESSIONS + at] == 1
+}
+
 // ---- stores
 pub fn set_offered(book: &mut Book, row: u8, hour: u8, mw: u16)
     requires { ⌜ (row < 32) × ((1 ≤ hour) × (hour ≤ 25)) ⌝ }
     ensures { λ r. ⌜ now (book .exit) ≡ set (now (book .entry)) (OFFERED + place row hour) mw ⌝ }
 {
     book[OFFERED_MW + (row as usize * 25 + (hour as usize - 1))] = mw as u32;
+}
+
+// The session of a direction is matched.
+pub fn set_matched(book: &mut Book, direction: u8, session: u8)
+    requires { ⌜ (direction < 24) × ((1 ≤ session) × (session ≤ 25)) ⌝ }
+    ensures { λ r. ⌜ now (book .exit) ≡ set (now (book .entry)) (MATCHED + flag direction session) 1 ⌝ }
+{
+    book[MATCHED_SESSIONS + flag_of(direction, session)] = 1;
 }
 
 // The time of a granted timed call.
@@ -160,7 +215,8 @@ pub fn clear(book: &mut Book, hours: u8, weekday: u8)
     book[WEEKDAY] = weekday as u32;
 }
 
-fn write_cells(book: &mut Book, at: usize, row: &[u32])
+// Cells from `at` on.
+pub fn write_cells(book: &mut Book, at: usize, row: &[u32])
     requires { ⌜ at + length (now row) ≤ CELLS ⌝ }
     ensures { λ r. ⌜ now (book .exit) ≡ sets (now (book .entry)) at (now (row .entry)) ⌝ }
 {

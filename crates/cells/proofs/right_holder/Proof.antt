@@ -1,0 +1,13 @@
+-- `cells::right_holder` meets its contract.
+-- Assumes nothing.
+use borrow.Author.Needs.{needs}
+use Rattle.cells.specs.View.{rightAt}
+use Rattle.cells.proofs.right_holder.Statement.{statement}
+use Rattle.cells.proofs.right_holder.Tie as tie
+
+returns : tie.Need-returns
+unfolding rightAt
+returns c = search needs
+
+pub right-holder-spec : {M : Type 1} → statement M
+right-holder-spec = tie.close (tie.spec (λ c. search needs) (λ c. search needs) (λ c. search needs) (λ c. search needs) (λ c. search needs) (λ c. search needs) returns)
