@@ -1,0 +1,277 @@
+// A row: a call or a read in words, an equals sign, and the numbers that it is to answer. The numbers among the words are the call's.
+use answers::ConfirmedRead;
+use answers::LeftRead;
+use answers::RightRead;
+use cells::Book;
+use printing::Tally;
+use printing::counted;
+use printing::number;
+use printing::position;
+use printing::text;
+use rules::Answer;
+use rules::Hour;
+use rules::Session;
+
+// The most numbers that a row has on either side.
+const MOST: usize = 10;
+
+struct Numbers {
+    count: usize,
+    values: [u32; 10],
+}
+
+// ---- the numbers in a text
+
+fn is_digit(byte: u8) -> bool {
+    b'0' <= byte && byte <= b'9'
+}
+
+fn none() -> Numbers {
+    Numbers {
+        count: 0,
+        values: [0; 10],
+    }
+}
+
+// One number more, while there is room.
+fn and(before: Numbers, value: u32) -> Numbers {
+    let count = before.count;
+    let mut values = before.values;
+    if MOST <= count {
+        return before;
+    }
+    values[count] = value;
+    Numbers {
+        count: count + 1,
+        values,
+    }
+}
+
+// The last number with a digit more.
+fn and_digit(before: Numbers, digit: u32) -> Numbers {
+    let count = before.count;
+    let mut values = before.values;
+    if count == 0 || MOST < count {
+        return before;
+    }
+    let ten_times = values[count - 1] as u64 * 10;
+    values[count - 1] = (ten_times + digit as u64) as u32;
+    Numbers { count, values }
+}
+
+// A byte that follows the others; `within` says that a digit stands just before it.
+fn and_byte(before: Numbers, within: bool, byte: u8) -> Numbers {
+    if !is_digit(byte) {
+        return before;
+    }
+    let digit = (byte % 16) as u32;
+    if within {
+        return and_digit(before, digit);
+    }
+    and(before, digit)
+}
+
+fn numbers_in(bytes: &[u8]) -> Numbers {
+    let mut numbers = none();
+    let mut within = false;
+    for k in 0..bytes.len() {
+        let byte = bytes[k];
+        numbers = and_byte(numbers, within, byte);
+        within = is_digit(byte);
+    }
+    numbers
+}
+
+fn same_numbers(one: Numbers, other: Numbers) -> bool {
+    if one.count != other.count {
+        return false;
+    }
+    for k in 0..MOST {
+        if one.values[k] != other.values[k] {
+            return false;
+        }
+    }
+    true
+}
+
+fn print_numbers(numbers: Numbers) {
+    for k in 0..MOST {
+        if k < numbers.count {
+            text(b" ");
+            number(numbers.values[k] as u64);
+        }
+    }
+}
+
+// ---- what a call or a read answers
+
+fn of_answer(answer: Answer) -> Numbers {
+    let said = daybook::numbers(answer);
+    and(and(and(none(), said.number as u32), said.first), said.second)
+}
+
+// The number alone.
+fn of_number(answer: Answer) -> Numbers {
+    and(none(), daybook::numbers(answer).number as u32)
+}
+
+fn of_left(read: LeftRead) -> Numbers {
+    let answer = read.answer;
+    and(of_number(answer), read.left)
+}
+
+fn and_five(before: Numbers, mw: [u32; 5]) -> Numbers {
+    and(
+        and(and(and(and(before, mw[0]), mw[1]), mw[2]), mw[3]),
+        mw[4],
+    )
+}
+
+fn of_right(read: RightRead) -> Numbers {
+    let answer = read.answer;
+    let mw = read.mw;
+    let session = read.session;
+    let holder = and(of_number(answer), read.holder as u32);
+    let direction = and(holder, read.direction as u32);
+    and_five(and(direction, session.0 as u32), mw)
+}
+
+fn of_confirmed(read: ConfirmedRead) -> Numbers {
+    let answer = read.answer;
+    let mw = read.mw;
+    and_five(of_number(answer), mw)
+}
+
+// ---- the call of a row
+
+fn five(given: [u32; 10], from: usize) -> [u16; 5] {
+    if 5 < from {
+        return [0; 5];
+    }
+    [
+        given[from] as u16,
+        given[from + 1] as u16,
+        given[from + 2] as u16,
+        given[from + 3] as u16,
+        given[from + 4] as u16,
+    ]
+}
+
+// The code stands after the words "entry of party ", the access map after it.
+fn enter_party(book: &mut Book, row: &[u8]) -> Answer {
+    if row.len() < 31 {
+        return Answer::Record;
+    }
+    let mut code = [0u8; 16];
+    for k in 0..16 {
+        code[k] = row[15 + k];
+    }
+    let access = numbers_in(&row[31..]).values[0];
+    daybook::add_party(book, code, access as u8)
+}
+
+fn offer(book: &mut Book, shared: bool, given: [u32; 10]) -> Answer {
+    let hour = Hour(given[2] as u8);
+    let mw = given[3] as u16;
+    if shared {
+        return daybook::offer_profile(book, given[0], given[1] as u8, hour, mw);
+    }
+    daybook::offer_direction(book, given[0], given[1] as u8, hour, mw)
+}
+
+fn bid(book: &mut Book, given: [u32; 10]) -> Answer {
+    let session = Session(given[3] as u8);
+    let mw = five(given, 4);
+    daybook::bid(book, given[0], given[1] as u8, given[2] as u8, session, mw)
+}
+
+fn nominate(book: &mut Book, given: [u32; 10]) -> Answer {
+    let sender = given[1] as u8;
+    let other = given[2] as u8;
+    let right = given[3] as u16;
+    let mw = five(given, 5);
+    daybook::nominate(book, given[0], sender, other, right, given[4] as u8, mw)
+}
+
+fn match_session(book: &mut Book, given: [u32; 10]) -> Answer {
+    daybook::match_session(book, given[0], given[1] as u8, Session(given[2] as u8))
+}
+
+// By the first letter: hours, direction, profile, entry.
+fn setup_answer(book: &mut Book, row: &[u8], letter: u8, given: [u32; 10]) -> Answer {
+    let first = given[0] as u8;
+    match letter {
+        b'h' => daybook::open_day(book, first, given[1] as u8),
+        b'd' => daybook::add_direction(book, first, given[1] as u8, given[2] as u8),
+        b'p' => daybook::add_profile(book, given[0]),
+        _ => enter_party(book, row),
+    }
+}
+
+// Offer, shared offer, bid, nomination, matching.
+fn timed_answer(book: &mut Book, letter: u8, given: [u32; 10]) -> Answer {
+    match letter {
+        b'o' => offer(book, false, given),
+        b's' => offer(book, true, given),
+        b'b' => bid(book, given),
+        b'n' => nominate(book, given),
+        _ => match_session(book, given),
+    }
+}
+
+// Left, what is left, right, confirmed.
+fn read_answer(book: &Book, letter: u8, given: [u32; 10]) -> Numbers {
+    let first = given[0] as u8;
+    let second = given[1] as u8;
+    match letter {
+        b'l' => of_left(daybook::left_of_direction(book, first, Hour(second))),
+        b'w' => of_left(daybook::left_of_profile(book, first, Hour(second))),
+        b'r' => of_right(daybook::right_at(book, given[0] as u16)),
+        _ => of_confirmed(daybook::confirmed_of(
+            book,
+            given[0] as u16,
+            second,
+            given[2] as u8,
+        )),
+    }
+}
+
+fn answered(book: &mut Book, row: &[u8], given: [u32; 10]) -> Numbers {
+    if row.len() == 0 {
+        return none();
+    }
+    let letter = row[0];
+    match letter {
+        b'h' | b'd' | b'p' | b'e' => of_answer(setup_answer(book, row, letter, given)),
+        b'o' | b's' | b'b' | b'n' | b'm' => of_answer(timed_answer(book, letter, given)),
+        _ => read_answer(book, letter, given),
+    }
+}
+
+// ---- rows
+
+pub fn row_case(tally: Tally, book: &mut Book, row: &[u8]) -> Tally {
+    let equals = position(row, 0, b'=');
+    let words = &row[0..equals];
+    let expected = numbers_in(&row[equals..]);
+    let given = numbers_in(words).values;
+    let found = answered(book, words, given);
+    text(words);
+    text(b"=");
+    print_numbers(found);
+    text(b", expected");
+    print_numbers(expected);
+    counted(tally, same_numbers(found, expected))
+}
+
+// Rows that end with a bar.
+pub fn row_cases(before: Tally, book: &mut Book, rows: &[u8]) -> Tally {
+    let mut tally = before;
+    let mut from = 0;
+    while from < rows.len() {
+        let bar = position(rows, from, b'|');
+        tally = row_case(tally, book, &rows[from..bar]);
+        from = bar + 1;
+    }
+    tally
+}
