@@ -1,5 +1,6 @@
 -- `matching::count_right` meets its contract.
 -- Assumes nothing.
+use mathlib.Core.Path.{refl}
 use borrow.Author.Needs.{needs}
 use Rattle.matching.specs.Work.{oneOf}
 use Rattle.matching.proofs.count_right.Statement.{statement}
@@ -7,7 +8,7 @@ use Rattle.matching.proofs.count_right.Tie as tie
 
 returns : tie.Need-returns
 unfolding oneOf
-returns c = rw (← c .before .is-right-of-session .ensures, c .if1 .taken)
+returns c = rw (← c .before .is-right-of-session .ensures, c .if1 .taken) refl
 
 returns-2 : tie.Need-returns-2
 unfolding oneOf

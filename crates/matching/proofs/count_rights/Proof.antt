@@ -1,6 +1,6 @@
 -- `matching::count_rights` meets its contract: the whole count is that of the rows passed and that of the rows left.
 -- Assumes nothing.
-use mathlib.Core.Path.{_≡_, sym, _∙_}
+use mathlib.Core.Path.{_≡_, refl, sym, _∙_}
 use Prim.Native.Nat.{_≤_, _+_, _-_}
 use native.Mathlib.Nat.{zero-add, add-zero, add-assoc}
 use native.Mathlib.Omega.{arith}
@@ -32,7 +32,7 @@ loop-again : tie.Need-loop-again Inv-loop μ-loop
 unfolding tally
 loop-again c =
     let few = few-more c in
-    (omega arith, c .before .before .loop .inv .1 ∙ rw (each-next _ _ _ _ (c .before .loop-test .taken), c .count-right .ensures, add-assoc))
+    (omega arith, c .before .before .loop .inv .1 ∙ rw (each-next _ _ _ _ (c .before .loop-test .taken), c .count-right .ensures, add-assoc) refl)
 
 returns : tie.Need-returns Inv-loop μ-loop
 returns c = sym (c .before .loop .inv .1 ∙ rw (each-done _ _ _ _ (c .loop-test .left), add-zero _))
