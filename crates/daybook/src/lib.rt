@@ -1,7 +1,7 @@
 // The public calls of a day book. The book is a lent array of cells; no call has a `requires`, whatever the cells hold.
 ghost use mathlib.Core.Path.{_≡_};
 ghost use Rattle.rules.specs.Said.{said, saidNumbers};
-ghost use Rattle.rules.specs.Calls.{AddDirection, AddProfile, AddParty, OfferDirection, OfferProfile, Bid};
+ghost use Rattle.rules.specs.Calls.{AddDirection, AddProfile, AddParty, OfferDirection, OfferProfile, Bid, Match};
 ghost use Rattle.answers.specs.Promises.{Opens, Answers, ReadsDirection, ReadsProfile, ReadsRight};
 use answers::LeftRead;
 use answers::RightRead;
@@ -71,6 +71,15 @@ pub fn bid(
     ensures { λ r. ⌜ Answers (now (book .entry)) (Bid time party direction (session .0) mw) r (now (book .exit)) ⌝ }
 {
     bids::bid(book, time, party, direction, session, mw)
+}
+
+// ---- matching
+
+// A direction's session, once. Granted: the count of its rights.
+pub fn match_session(book: &mut Book, time: u32, direction: u8, session: Session) -> Answer
+    ensures { λ r. ⌜ Answers (now (book .entry)) (Match time direction (session .0)) r (now (book .exit)) ⌝ }
+{
+    matching::match_session(book, time, direction, session)
 }
 
 // ---- reads

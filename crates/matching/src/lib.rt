@@ -1,0 +1,126 @@
+// The matching of a direction's session, once. It is checked whole before anything is stored.
+ghost use mathlib.Core.Path.{_≡_};
+ghost use mathlib.Core.Bool.{_||_};
+ghost use Prim.Native.Nat.{_<_};
+ghost use lib.Dec.{ltb};
+ghost use Rattle.rules.specs.Windows.{latest, matchingOutside};
+ghost use Rattle.rules.specs.Calls.{Match};
+ghost use Rattle.rules.specs.Nominations.{countRights};
+ghost use Rattle.rules.specs.Refusals.{directionUnknown, sessionUnknown, number};
+ghost use Rattle.cells.specs.View.{bookOf, rightAt};
+ghost use Rattle.answers.specs.Promises.{Judged, Answers};
+ghost use Rattle.matching.specs.Work.{isOf, oneOf, Placed};
+use answers::Verdict;
+use cells::Book;
+use rules::Answer;
+use rules::Session;
+
+// ---- tests
+
+fn match_field(time: u32) -> bool
+    ensures { λ r. ⌜ r ≡ ltb latest time ⌝ }
+{
+    time > 2999
+}
+
+fn match_unknown(book: &Book, direction: u8, session: Session) -> bool
+    ensures { λ r. ⌜ r ≡ (directionUnknown (bookOf (now (book .entry))) direction || sessionUnknown (bookOf (now (book .entry))) direction (session .0)) ⌝ }
+{
+    if answers::direction_unknown(book, direction) {
+        return true;
+    }
+    let hours = cells::hours(book);
+    let model = cells::model_of(book, direction);
+    !day::session_there(hours, model, session)
+}
+
+// Before matching opens.
+fn outside(book: &Book, model: u32, session: Session, time: u32) -> bool
+    ensures { λ r. ⌜ r ≡ matchingOutside (bookOf (now (book .entry)) .hours) (bookOf (now (book .entry)) .weekday) model (session .0) time ⌝ }
+{
+    let hours = cells::hours(book);
+    let weekday = cells::weekday(book);
+    day::matching_outside(hours, weekday, model, session, time)
+}
+
+fn match_verdict(book: &Book, time: u32, direction: u8, session: Session) -> Verdict
+    ensures { λ r. ⌜ Judged (bookOf (now (book .entry))) (Match time direction (session .0)) r ⌝ }
+{
+    if match_field(time) {
+        return Verdict::No(Answer::Field);
+    }
+    if answers::is_early(book, time) {
+        return Verdict::No(Answer::Clock);
+    }
+    if match_unknown(book, direction, session) {
+        return Verdict::No(Answer::Unknown);
+    }
+    let model = cells::model_of(book, direction);
+    if outside(book, model, session, time) {
+        return Verdict::No(Answer::Gate);
+    }
+    if cells::is_matched(book, direction, session.0) {
+        return Verdict::No(Answer::Cycle);
+    }
+    Verdict::Clear
+}
+
+// ---- the count of rights
+
+fn is_right_of_session(book: &Book, i: u32, direction: u8, session: u8) -> bool
+    requires { ⌜ i < 512 ⌝ }
+    ensures { λ r. ⌜ r ≡ isOf direction session (rightAt (now (book .entry)) i) ⌝ }
+{
+    if cells::right_direction(book, i as u16) != direction {
+        return false;
+    }
+    cells::right_session(book, i as u16) == session
+}
+
+// 1 for a right of the session, else 0.
+fn count_right(book: &Book, i: u32, direction: u8, session: u8) -> u32
+    requires { ⌜ i < 512 ⌝ }
+    ensures { λ r. ⌜ r ≡ oneOf direction session (rightAt (now (book .entry)) i) ⌝ }
+{
+    if is_right_of_session(book, i, direction, session) {
+        return 1;
+    }
+    0
+}
+
+// All rights of a direction and session, nominated or not.
+fn count_rights(book: &Book, direction: u8, session: u8) -> u32
+    ensures { λ r. ⌜ r ≡ countRights direction session (bookOf (now (book .entry)) .rights) ⌝ }
+{
+    let rights = cells::count_in(book, cells::RIGHTS, 512);
+    let mut count = 0;
+    for i in 0..rights {
+        count += count_right(book, i, direction, session);
+    }
+    count
+}
+
+// ---- a granted matching
+
+// The stores: the count of the session's rights.
+fn place_match(book: &mut Book, time: u32, direction: u8, session: u8) -> u32
+    requires { ⌜ number (bookOf (now book)) (Match time direction session) ≡ 0 ⌝ }
+    ensures { λ r. ⌜ Placed (now (book .entry)) time direction session r (now (book .exit)) ⌝ }
+{
+    let cells = cells::cells_in(book);
+    let count = count_rights(book, direction, session);
+    cells::set_matched(book, direction, session);
+    cells::set_clock(book, time);
+    count
+}
+
+pub fn match_session(book: &mut Book, time: u32, direction: u8, session: Session) -> Answer
+    ensures { λ r. ⌜ Answers (now (book .entry)) (Match time direction (session .0)) r (now (book .exit)) ⌝ }
+{
+    let number = session.0;
+    let verdict = match_verdict(book, time, direction, session);
+    match verdict {
+        Verdict::No(answer) => answer,
+        Verdict::Clear => Answer::Granted(place_match(book, time, direction, number)),
+    }
+}
