@@ -1,0 +1,3 @@
+pub mod Rest
+pub mod Prefix
+pub mod Sums
