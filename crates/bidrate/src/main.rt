@@ -1,5 +1,4 @@
 // A benchmark: a book with every table of the set-up full, 100,000 bids, and how many had each answer.
-mod choice;
 mod setup;
 mod tally;
 
@@ -10,12 +9,12 @@ const BIDS: u32 = 100000;
 
 fn all_bids(book: &mut Book, counts: &mut [u32; 16]) {
     for i in 0..BIDS {
-        let kind = choice::kind_of(i);
-        let party = choice::party(kind, i);
-        let direction = choice::direction(kind, i);
-        let session = Session(choice::session(kind, i));
-        let mw = choice::mw(kind, i);
-        let answer = daybook::bid(book, choice::time(i), party, direction, session, mw);
+        let kind = bid_choices::kind_of(i);
+        let party = bid_choices::party(kind, i);
+        let direction = bid_choices::direction(kind, i);
+        let session = Session(bid_choices::session(kind, i));
+        let mw = bid_choices::mw(kind, i);
+        let answer = daybook::bid(book, bid_choices::time(i), party, direction, session, mw);
         tally::counted(counts, answer);
     }
 }
@@ -27,8 +26,7 @@ fn main() {
     setup::add_directions(&mut book, &mut before);
     setup::add_profiles(&mut book, &mut before);
     setup::add_parties(&mut book, &mut before);
-    setup::offer_directions(&mut book, &mut before);
-    setup::offer_profiles(&mut book, &mut before);
+    setup::offer_everywhere(&mut book, &mut before);
     tally::print(before[0], b" calls of set-up and offers granted\n");
     let mut counts = [0u32; 16];
     all_bids(&mut book, &mut counts);

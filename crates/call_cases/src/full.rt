@@ -8,8 +8,6 @@ use printing::text;
 use rules::Answer;
 use rules::Session;
 
-const CHARACTERS: [u8; 36] = *b"0123456789ABCDEFGHIJKLMNOPQRSTUVWXYZ";
-
 const SETUP_IS_FULL: [u8; 146] = *b"\
     direction 6 to 5, model 1 = 13 0 0|\
     direction 0 to 1, model 1 = 7 0 0|\
@@ -64,24 +62,10 @@ fn fill_profiles(book: &mut Book) -> u64 {
     count
 }
 
-// A code with two digits of a number, and the check character that makes it a party code, if there is one.
-fn code_of(number: u8) -> [u8; 16] {
-    let mut code = *b"10X-------------";
-    code[13] = b'0' + number / 10 % 10;
-    code[14] = b'0' + number % 10;
-    for k in 0..36 {
-        code[15] = CHARACTERS[k];
-        if eic::is_party_code(code) {
-            return code;
-        }
-    }
-    code
-}
-
 fn fill_parties(book: &mut Book) -> u64 {
     let mut count = 0;
     for k in 0..100 {
-        count = and_granted(count, daybook::add_party(book, code_of(k), 1));
+        count = and_granted(count, daybook::add_party(book, party_codes::code_of(k), 1));
     }
     count
 }
@@ -132,6 +116,11 @@ pub fn run(before: Tally, book: &mut Book) -> Tally {
     tally = row_cases(tally, book, &one_right);
     tally = count_case(tally, b"600 bids for new rights", fill_rights(book), 511);
     tally = row_cases(tally, book, &rights_are_full);
-    tally = count_case(tally, b"nominations of 600 new pairs", fill_pairs(book), 512);
+    tally = count_case(
+        tally,
+        b"nominations of 600 new pairs",
+        fill_pairs(book),
+        512,
+    );
     row_cases(tally, book, &pairs_are_full)
 }

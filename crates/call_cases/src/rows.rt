@@ -47,15 +47,14 @@ fn and(before: Numbers, value: u32) -> Numbers {
     }
 }
 
-// The last number with a digit more.
-fn and_digit(before: Numbers, digit: u32) -> Numbers {
+// The last number with a digit more; no number of a row has more than six.
+fn and_digit(before: Numbers, digit: u8) -> Numbers {
     let count = before.count;
     let mut values = before.values;
     if count == 0 || MOST < count {
         return before;
     }
-    let ten_times = values[count - 1] as u64 * 10;
-    values[count - 1] = (ten_times + digit as u64) as u32;
+    values[count - 1] = values[count - 1] % 100000 * 10 + digit as u32;
     Numbers { count, values }
 }
 
@@ -64,11 +63,11 @@ fn and_byte(before: Numbers, within: bool, byte: u8) -> Numbers {
     if !is_digit(byte) {
         return before;
     }
-    let digit = (byte % 16) as u32;
+    let digit = byte % 16;
     if within {
         return and_digit(before, digit);
     }
-    and(before, digit)
+    and(before, digit as u32)
 }
 
 fn numbers_in(bytes: &[u8]) -> Numbers {
@@ -107,7 +106,10 @@ fn print_numbers(numbers: Numbers) {
 
 fn of_answer(answer: Answer) -> Numbers {
     let said = daybook::numbers(answer);
-    and(and(and(none(), said.number as u32), said.first), said.second)
+    and(
+        and(and(none(), said.number as u32), said.first),
+        said.second,
+    )
 }
 
 // The number alone.
@@ -144,16 +146,24 @@ fn of_confirmed(read: ConfirmedRead) -> Numbers {
 
 // ---- the call of a row
 
+fn byte(n: u32) -> u8 {
+    (n % 256) as u8
+}
+
+fn two_bytes(n: u32) -> u16 {
+    (n % 65536) as u16
+}
+
 fn five(given: [u32; 10], from: usize) -> [u16; 5] {
     if 5 < from {
         return [0; 5];
     }
     [
-        given[from] as u16,
-        given[from + 1] as u16,
-        given[from + 2] as u16,
-        given[from + 3] as u16,
-        given[from + 4] as u16,
+        two_bytes(given[from]),
+        two_bytes(given[from + 1]),
+        two_bytes(given[from + 2]),
+        two_bytes(given[from + 3]),
+        two_bytes(given[from + 4]),
     ]
 }
 
@@ -167,42 +177,42 @@ fn enter_party(book: &mut Book, row: &[u8]) -> Answer {
         code[k] = row[15 + k];
     }
     let access = numbers_in(&row[31..]).values[0];
-    daybook::add_party(book, code, access as u8)
+    daybook::add_party(book, code, byte(access))
 }
 
 fn offer(book: &mut Book, shared: bool, given: [u32; 10]) -> Answer {
-    let hour = Hour(given[2] as u8);
-    let mw = given[3] as u16;
+    let hour = Hour(byte(given[2]));
+    let mw = two_bytes(given[3]);
     if shared {
-        return daybook::offer_profile(book, given[0], given[1] as u8, hour, mw);
+        return daybook::offer_profile(book, given[0], byte(given[1]), hour, mw);
     }
-    daybook::offer_direction(book, given[0], given[1] as u8, hour, mw)
+    daybook::offer_direction(book, given[0], byte(given[1]), hour, mw)
 }
 
 fn bid(book: &mut Book, given: [u32; 10]) -> Answer {
-    let session = Session(given[3] as u8);
+    let session = Session(byte(given[3]));
     let mw = five(given, 4);
-    daybook::bid(book, given[0], given[1] as u8, given[2] as u8, session, mw)
+    daybook::bid(book, given[0], byte(given[1]), byte(given[2]), session, mw)
 }
 
 fn nominate(book: &mut Book, given: [u32; 10]) -> Answer {
-    let sender = given[1] as u8;
-    let other = given[2] as u8;
-    let right = given[3] as u16;
+    let sender = byte(given[1]);
+    let other = byte(given[2]);
+    let right = two_bytes(given[3]);
     let mw = five(given, 5);
-    daybook::nominate(book, given[0], sender, other, right, given[4] as u8, mw)
+    daybook::nominate(book, given[0], sender, other, right, byte(given[4]), mw)
 }
 
 fn match_session(book: &mut Book, given: [u32; 10]) -> Answer {
-    daybook::match_session(book, given[0], given[1] as u8, Session(given[2] as u8))
+    daybook::match_session(book, given[0], byte(given[1]), Session(byte(given[2])))
 }
 
 // By the first letter: hours, direction, profile, entry.
 fn setup_answer(book: &mut Book, row: &[u8], letter: u8, given: [u32; 10]) -> Answer {
-    let first = given[0] as u8;
+    let first = byte(given[0]);
     match letter {
-        b'h' => daybook::open_day(book, first, given[1] as u8),
-        b'd' => daybook::add_direction(book, first, given[1] as u8, given[2] as u8),
+        b'h' => daybook::open_day(book, first, byte(given[1])),
+        b'd' => daybook::add_direction(book, first, byte(given[1]), byte(given[2])),
         b'p' => daybook::add_profile(book, given[0]),
         _ => enter_party(book, row),
     }
@@ -221,18 +231,13 @@ fn timed_answer(book: &mut Book, letter: u8, given: [u32; 10]) -> Answer {
 
 // Left, what is left, right, confirmed.
 fn read_answer(book: &Book, letter: u8, given: [u32; 10]) -> Numbers {
-    let first = given[0] as u8;
-    let second = given[1] as u8;
+    let first = byte(given[0]);
+    let second = byte(given[1]);
     match letter {
         b'l' => of_left(daybook::left_of_direction(book, first, Hour(second))),
         b'w' => of_left(daybook::left_of_profile(book, first, Hour(second))),
-        b'r' => of_right(daybook::right_at(book, given[0] as u16)),
-        _ => of_confirmed(daybook::confirmed_of(
-            book,
-            given[0] as u16,
-            second,
-            given[2] as u8,
-        )),
+        b'r' => of_right(daybook::right_at(book, two_bytes(given[0]))),
+        _ => of_confirmed(daybook::confirmed_of(book, two_bytes(given[0]), second, byte(given[2]))),
     }
 }
 

@@ -126,7 +126,7 @@ const OPENING: [u8; 1179] = *b"\
 ";
 
 // Each refusal of an offer, and the reads of capacity left.
-const OFFERS: [u8; 1725] = *b"\
+const OFFERS: [u8; 1777] = *b"\
     hours 25, weekday 7 = 0 0 0|\
     direction 0 to 4, model 4 = 0 0 0|\
     direction 1 to 4, model 1 = 0 1 0|\
@@ -161,6 +161,7 @@ const OFFERS: [u8; 1725] = *b"\
     offer at 1289 for direction 0, hour 5: 70 = 0 10 0|\
     offer at 1290 for direction 0, hour 5: 70 = 8 0 0|\
     offer at 1290 for direction 1, hour 5: 70 = 0 70 0|\
+    offer at 1290 for direction 1, hour 25: 70 = 0 70 0|\
     shared offer at 1529 for profile 0, hour 5: 70 = 0 10 0|\
     shared offer at 1530 for profile 0, hour 5: 70 = 8 0 0|\
 ";

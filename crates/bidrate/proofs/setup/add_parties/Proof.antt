@@ -4,10 +4,10 @@ use Rattle.bidrate.proofs.setup.add_parties.Statement.{statement}
 use Rattle.bidrate.proofs.setup.add_parties.Tie as tie
 
 abbrev Inv-loop : tie.InvT-loop
-Inv-loop book₀ counts₀ party₀ book counts party = party ≤ 64
+Inv-loop book₀ counts₀ number₀ book counts number = number ≤ 100
 
 abbrev μ-loop : tie.MeasureT-loop
-μ-loop book₀ counts₀ party₀ book counts party = 64 - party
+μ-loop book₀ counts₀ number₀ book counts number = 100 - number
 
 pub add-parties-spec : {M : Type 1} → statement M
 add-parties-spec =

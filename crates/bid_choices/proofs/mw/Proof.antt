@@ -1,6 +1,6 @@
 use borrow.Author.Needs.{needs}
-use Rattle.bidrate.proofs.choice.mw.Statement.{statement}
-use Rattle.bidrate.proofs.choice.mw.Tie as tie
+use Rattle.bid_choices.proofs.mw.Statement.{statement}
+use Rattle.bid_choices.proofs.mw.Tie as tie
 
 pub mw-spec : {M : Type 1} → statement M
 mw-spec =
