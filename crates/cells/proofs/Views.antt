@@ -9,7 +9,7 @@ use native.Mathlib.Nat.{zero-add}
 use lib.Dec.{eqb, leb, ltb, lit≤}
 use borrow.Author.Tests.{leb-false, ltb-false}
 use lib.ListN.{length, getD, List·getD-eq-default}
-use Rattle.rules.specs.Book.{Direction, Party, place, direction, party, right, leftAt, modelOf}
+use Rattle.rules.specs.Book.{Direction, Party, Pair, place, direction, party, right, leftAt, modelOf}
 use Rattle.rules.specs.Refusals.{hourUnknown}
 use Rattle.cells.specs.Layout.{DIRECTIONS, PROFILES, PARTIES, OFFERED, GRANTED, MATCHED, RIGHTS, PAIRS}
 use Rattle.cells.specs.View.{cell, part, counted, dayHoursIn, directionAt, directionsIn, profilesIn, partyAt, partiesIn, offeredIn, grantedIn, matchedIn, rightAt, rightsIn, pairAt, pairsIn, bookOf}
@@ -122,6 +122,10 @@ right-at b r l = rows-at (rightAt b) (counted b RIGHTS 512) 0 r _ l ∙ ap (righ
 pub pair-count : (b : List ℕ) → length (bookOf b .pairs) ≡ counted b PAIRS 512
 unfolding bookOf pairsIn
 pair-count b = rows-length (pairAt b) (counted b PAIRS 512) 0
+
+pub pair-at : (b : List ℕ) (i : ℕ) (z : Pair) → i < counted b PAIRS 512 → getD (bookOf b .pairs) i z ≡ pairAt b i
+unfolding bookOf pairsIn
+pair-at b i z l = rows-at (pairAt b) (counted b PAIRS 512) 0 i z l ∙ ap (pairAt b) (zero-add i)
 
 pub matched-at : (b : List ℕ) (i : ℕ) → i < 600 → getD (bookOf b .matched) i 0 ≡ cell b (MATCHED + i)
 unfolding bookOf matchedIn
