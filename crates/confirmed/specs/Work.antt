@@ -4,8 +4,11 @@ use Prim.Native.Nat.{ℕ, _≤_}
 use mathlib.Core.Path.{_≡_}
 use mathlib.Core.List.{List}
 use lib.ListN.{getD, set, take}
+use Rattle.rules.specs.Basics.{noMw}
 use Rattle.rules.specs.Nominations.{lower, lowerTotal, confirmedOf}
+use Rattle.rules.specs.declared.Answer.{Answer}
 use Rattle.cells.specs.View.{rightAt, pairAt, bookOf}
+use Rattle.answers.specs.declared.ConfirmedRead.{ConfirmedRead}
 use Rattle.totals.specs.Total.{lowerOf, totalLower}
 use Rattle.totals.specs.declared.Pair.{Pair}
 use Rattle.confirmed.specs.declared.PairList.{PairList}
@@ -26,3 +29,7 @@ hourIn b r i k = confirmedOf (getD (rightAt b r .mw) k 0) (lowerTotal r k (bookO
 -- the value of f for hour k is stored
 unfoldable pub withHour : (ℕ → ℕ) → ℕ → List ℕ → List ℕ
 withHour f k mw = set mw k (f k)
+
+-- a refused read answers zeros
+abbrev pub refusedRead : Answer → ConfirmedRead
+refusedRead a = record { answer = a; mw = noMw }

@@ -7,9 +7,13 @@ ghost use Rattle.rules.specs.Basics.{five};
 ghost use Rattle.rules.specs.Nominations.{confirmedOf};
 ghost use Rattle.cells.specs.Layout.{CELLS};
 ghost use Rattle.cells.specs.View.{part, pairAt};
+ghost use Rattle.answers.specs.Promises.{ReadsConfirmed};
 ghost use Rattle.totals.specs.Total.{ruled};
-ghost use Rattle.confirmed.specs.Work.{Gathered, hourOf, hourIn};
+ghost use Rattle.confirmed.specs.Work.{Gathered, hourOf, hourIn, refusedRead};
+use answers::ConfirmedRead;
 use cells::Book;
+use pairs::Found;
+use rules::Answer;
 use totals::Pair;
 
 // The pairs of one right: the first `count` of the array.
@@ -116,4 +120,36 @@ fn confirmed_five(book: &Book, right: u16, i: u32) -> [u32; 5]
         mw[hour] = confirmed_hour(book, list, right, pair, hour);
     }
     mw
+}
+
+// A refused read.
+fn refused(answer: Answer) -> ConfirmedRead
+    ensures { λ r. ⌜ r ≡ refusedRead answer ⌝ }
+{
+    ConfirmedRead {
+        answer: answer,
+        mw: [0; 5],
+    }
+}
+
+// The confirmed MW of a pair, by its right, out party and in party.
+pub fn confirmed_of(book: &Book, right: u16, out: u8, into: u8) -> ConfirmedRead
+    ensures { λ r. ⌜ ReadsConfirmed (now (book .entry)) right out into r ⌝ }
+{
+    if cells::count_in(book, cells::RIGHTS, 512) <= right as u32 {
+        return refused(Answer::Unknown);
+    }
+    let Found::At(i) = pairs::standing_pair(book, right as u32, out as u32, into as u32) else {
+        return refused(Answer::Unknown);
+    };
+    let direction = cells::right_direction(book, right);
+    let session = cells::right_session(book, right);
+    if !cells::is_matched(book, direction, session) {
+        return refused(Answer::Cycle);
+    }
+    let mw = confirmed_five(book, right, i);
+    ConfirmedRead {
+        answer: Answer::Granted(0),
+        mw: mw,
+    }
 }

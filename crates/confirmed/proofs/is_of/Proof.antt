@@ -4,14 +4,10 @@ use native.Mathlib.Omega.{arith}
 use borrow.Author.Tests.{eq-eqb, ne-eqb}
 use Rattle.confirmed.proofs.is_of.Statement.{statement}
 use Rattle.confirmed.proofs.is_of.Tie as tie
-use Rattle.confirmed.proofs.is_of.Reads as reads
-use Rattle.confirmed.proofs.is_of.Lts as lts
 
--- src/lib.rt:46:1
 returns : tie.Need-returns
 returns c = (simp (eq-eqb _ _ (c .if1 .taken)), omega arith)
 
--- src/lib.rt:46:1
 returns-2 : tie.Need-returns-2
 returns-2 c = (simp (ne-eqb _ _ (c .if1 .left)), omega arith)
 

@@ -12,11 +12,6 @@ use Rattle.totals.specs.Total.{totalLower}
 use Rattle.confirmed.proofs.Gathering.{gather-start, gather-next, gather-done}
 use Rattle.confirmed.proofs.pairs_of.Statement.{statement}
 use Rattle.confirmed.proofs.pairs_of.Tie as tie
-use Rattle.confirmed.proofs.pairs_of.Reads as reads
-use Rattle.confirmed.proofs.pairs_of.Lts as lts
-use Rattle.cells.proofs.count_in.Reads as count-in-reads
-use Rattle.confirmed.proofs.is_of.Reads as is-of-reads
-use Rattle.confirmed.proofs.pair_in.Reads as pair-in-reads
 
 abbrev Inv-loop : tie.InvT-loop
 Inv-loop book right pairs₀ count₀ entries i₀ pairs count i =
@@ -26,43 +21,9 @@ Inv-loop book right pairs₀ count₀ entries i₀ pairs count i =
 abbrev μ-loop : tie.MeasureT-loop
 μ-loop book right pairs₀ count₀ entries i₀ pairs count i = entries - i
 
--- src/lib.rt:65:9
-count-in-requires : tie.Need-count-in-requires Inv-loop μ-loop
-count-in-requires c κs = search needs
-
--- src/lib.rt:66:5
 loop-holds : tie.Need-loop-holds Inv-loop μ-loop
 loop-holds c = (((omega arith, omega (arith, c .count-in .ensures)), (omega arith, refl)), λ k. gather-start _ _ k _ (c .count-in .ensures))
 
--- src/lib.rt:67:13
-pair-in-requires : tie.Need-pair-in-requires Inv-loop μ-loop
-pair-in-requires c κs = search needs
-
--- src/lib.rt:68:9
-mul-pairs : tie.Need-mul-pairs Inv-loop μ-loop
-mul-pairs c = search needs
-
--- src/lib.rt:68:9
-array-set-from-pairs : tie.Need-array-set-from-pairs Inv-loop μ-loop
-array-set-from-pairs c = search needs
-
--- src/lib.rt:69:25
-is-of-requires : tie.Need-is-of-requires Inv-loop μ-loop
-is-of-requires c κs = search needs
-
--- src/lib.rt:69:17
-add-count : tie.Need-add-count Inv-loop μ-loop
-add-count c = search needs
-
--- src/lib.rt:66:9
-add-i : tie.Need-add-i Inv-loop μ-loop
-add-i c = search needs
-
--- src/lib.rt:66:5
-loop-less : tie.Need-loop-less Inv-loop μ-loop
-loop-less c = search needs
-
--- src/lib.rt:66:5
 loop-again : tie.Need-loop-again Inv-loop μ-loop
 loop-again c =
     let o = c .before .before .before in (
@@ -70,7 +31,6 @@ loop-again c =
       λ k. gather-next _ _ k _ _ _ _ _ _ (c .before .before .loop-test .taken) (omega arith) (c .before .pair-in .ensures) (c .is-of .ensures .0) ∙ o .loop .inv .1 k,
     )
 
--- src/lib.rt:53:1
 returns : tie.Need-returns Inv-loop μ-loop
 returns c =
     record {
@@ -84,14 +44,14 @@ pairs-of-spec =
     (tie.spec
     Inv-loop
     μ-loop
-    count-in-requires
+    (λ c κs. search needs)
     loop-holds
-    pair-in-requires
-    mul-pairs
-    array-set-from-pairs
-    is-of-requires
-    add-count
-    add-i
-    loop-less
+    (λ c κs. search needs)
+    (λ c. search needs)
+    (λ c. search needs)
+    (λ c κs. search needs)
+    (λ c. search needs)
+    (λ c. search needs)
+    (λ c. search needs)
     loop-again
     returns)
