@@ -2,7 +2,8 @@
 ghost use mathlib.Core.Path.{_≡_};
 ghost use Rattle.rules.specs.Said.{said, saidNumbers};
 ghost use Rattle.rules.specs.Calls.{AddDirection, AddProfile, AddParty, OfferDirection, OfferProfile, Bid, Match};
-ghost use Rattle.answers.specs.Promises.{Opens, Answers, ReadsDirection, ReadsProfile, ReadsRight};
+ghost use Rattle.answers.specs.Promises.{Opens, Answers, ReadsDirection, ReadsProfile, ReadsRight, ReadsConfirmed};
+use answers::ConfirmedRead;
 use answers::LeftRead;
 use answers::RightRead;
 use cells::Book;
@@ -99,6 +100,12 @@ pub fn right_at(book: &Book, right: u16) -> RightRead
     ensures { λ r. ⌜ ReadsRight (now (book .entry)) right r ⌝ }
 {
     bids::right_at(book, right)
+}
+
+pub fn confirmed_of(book: &Book, right: u16, out: u8, into: u8) -> ConfirmedRead
+    ensures { λ r. ⌜ ReadsConfirmed (now (book .entry)) right out into r ⌝ }
+{
+    confirmed::confirmed_of(book, right, out, into)
 }
 
 // ---- the paper's numbers

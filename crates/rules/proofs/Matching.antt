@@ -29,7 +29,7 @@ use Rattle.rules.proofs.Matched.{matched-is}
 five-same : (f g : ℕ → ℕ) → ((k : ℕ) → f k ≡ g k) → five f ≡ five g
 five-same f g h = rw (h 0, h 1, h 2, h 3, h 4)
 
-pair-right : (r o i : ℕ) (ps : List Pair) → pairOf r o i ps .right ≡ r
+pub pair-right : (r o i : ℕ) (ps : List Pair) → pairOf r o i ps .right ≡ r
 unfolding pairOf isPairOf
 pair-right r o i [] = refl
 pair-right r o i (x ∷ xs) = go (isPairOf r o i x) refl (pair-right r o i xs)

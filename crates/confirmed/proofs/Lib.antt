@@ -1,0 +1,3 @@
+pub mod Gathering
+pub mod Hours
+pub mod Reading

@@ -1,0 +1,57 @@
+-- `confirmed::pairs_of` meets its contract.
+-- Assumes nothing.
+use mathlib.Core.Path.{_≡_, refl, sym, _∙_}
+use Prim.Native.Nat.{ℕ, _≤_, _+_, _-_}
+use native.Mathlib.Omega.{arith}
+use borrow.Author.Needs.{needs}
+use lib.ListN.{length, take, length-set}
+use Rattle.rules.specs.Nominations.{lowerTotal}
+use Rattle.cells.specs.Loops.{rows}
+use Rattle.cells.specs.View.{pairAt, bookOf}
+use Rattle.totals.specs.Total.{totalLower}
+use Rattle.confirmed.proofs.Gathering.{gather-start, gather-next, gather-done}
+use Rattle.confirmed.proofs.pairs_of.Statement.{statement}
+use Rattle.confirmed.proofs.pairs_of.Tie as tie
+
+abbrev Inv-loop : tie.InvT-loop
+Inv-loop book right pairs₀ count₀ entries i₀ pairs count i =
+    (((i ≤ entries) × (entries ≤ 512)) × ((count ≤ i) × (length pairs ≡ 512)))
+    × ((k : ℕ) → totalLower k (take count pairs) + lowerTotal right k (rows (pairAt book) (entries - i) i) ≡ lowerTotal right k (bookOf book .pairs))
+
+abbrev μ-loop : tie.MeasureT-loop
+μ-loop book right pairs₀ count₀ entries i₀ pairs count i = entries - i
+
+loop-holds : tie.Need-loop-holds Inv-loop μ-loop
+loop-holds c = (((omega arith, omega (arith, c .count-in .ensures)), (omega arith, refl)), λ k. gather-start _ _ k _ (c .count-in .ensures))
+
+loop-again : tie.Need-loop-again Inv-loop μ-loop
+loop-again c =
+    let o = c .before .before .before in (
+      ((omega arith, omega arith), (omega (arith, c .is-of .ensures .1), simp length-set (o .loop .inv .0 .1 .1))),
+      λ k. gather-next _ _ k _ _ _ _ _ _ (c .before .before .loop-test .taken) (omega arith) (c .before .pair-in .ensures) (c .is-of .ensures .0) ∙ o .loop .inv .1 k,
+    )
+
+returns : tie.Need-returns Inv-loop μ-loop
+returns c =
+    record {
+      few = omega arith;
+      sums = λ k. sym (gather-done _ _ k _ _ _ (c .loop-test .left)) ∙ c .before .loop .inv .1 k;
+    }
+
+pub pairs-of-spec : {M : Type 1} → statement M
+pairs-of-spec =
+    tie.close
+    (tie.spec
+    Inv-loop
+    μ-loop
+    (λ c κs. search needs)
+    loop-holds
+    (λ c κs. search needs)
+    (λ c. search needs)
+    (λ c. search needs)
+    (λ c κs. search needs)
+    (λ c. search needs)
+    (λ c. search needs)
+    (λ c. search needs)
+    loop-again
+    returns)
