@@ -1,5 +1,5 @@
 // Full tables: as many entries as there is room for are granted, the next is refused, and what needs no new entry is still granted.
-use crate::rows::row_cases;
+use call_rows::row_cases;
 use cells::Book;
 use printing::Tally;
 use printing::counted;
@@ -56,7 +56,7 @@ fn fill_directions(book: &mut Book) -> u64 {
 
 fn fill_profiles(book: &mut Book) -> u64 {
     let mut count = 0;
-    for k in 0..20 {
+    for k in 0..20u32 {
         count = and_granted(count, daybook::add_profile(book, 3));
     }
     count
@@ -64,7 +64,7 @@ fn fill_profiles(book: &mut Book) -> u64 {
 
 fn fill_parties(book: &mut Book) -> u64 {
     let mut count = 0;
-    for k in 0..100 {
+    for k in 0..100u8 {
         count = and_granted(count, daybook::add_party(book, party_codes::code_of(k), 1));
     }
     count
@@ -72,7 +72,7 @@ fn fill_parties(book: &mut Book) -> u64 {
 
 fn fill_rights(book: &mut Book) -> u64 {
     let mut count = 0;
-    for k in 0..600 {
+    for k in 0..600u32 {
         let answer = daybook::bid(book, 1100, 0, 0, Session(1), [1, 0, 0, 0, 0]);
         count = and_granted(count, answer);
     }
@@ -82,7 +82,7 @@ fn fill_rights(book: &mut Book) -> u64 {
 // A pair under each right.
 fn fill_pairs(book: &mut Book) -> u64 {
     let mut count = 0;
-    for right in 0..600 {
+    for right in 0..600u16 {
         let answer = daybook::nominate(book, 1100, 0, 0, right, 0, [1, 0, 0, 0, 0]);
         count = and_granted(count, answer);
     }

@@ -1,6 +1,5 @@
 // Calls on one book, through the public functions: document 01's cases, and each refusal of each call with one that just isn't refused.
 mod full;
-mod rows;
 mod scenes;
 
 use cells::Book;

@@ -1,5 +1,5 @@
 // What is tried, row by row, and what document 01 has it answer.
-use crate::rows::row_cases;
+use call_rows::row_cases;
 use cells::Book;
 use printing::Tally;
 

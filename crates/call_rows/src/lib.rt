@@ -11,6 +11,8 @@ use printing::text;
 use rules::Answer;
 use rules::Hour;
 use rules::Session;
+ghost use Prim.Native.Nat.{_≤_};
+ghost use lib.ListN.{length};
 
 // The most numbers that a row has on either side.
 const MOST: usize = 10;
@@ -51,10 +53,14 @@ fn and(before: Numbers, value: u32) -> Numbers {
 fn and_digit(before: Numbers, digit: u8) -> Numbers {
     let count = before.count;
     let mut values = before.values;
-    if count == 0 || MOST < count {
+    if count == 0 {
         return before;
     }
-    values[count - 1] = values[count - 1] % 100000 * 10 + digit as u32;
+    let last = count - 1;
+    if MOST <= last {
+        return before;
+    }
+    values[last] = values[last] % 100000 * 10 + digit as u32;
     Numbers { count, values }
 }
 
@@ -167,15 +173,23 @@ fn five(given: [u32; 10], from: usize) -> [u16; 5] {
     ]
 }
 
-// The code stands after the words "entry of party ", the access map after it.
-fn enter_party(book: &mut Book, row: &[u8]) -> Answer {
-    if row.len() < 31 {
-        return Answer::Record;
-    }
+// The code stands after the words "entry of party ".
+fn code_in(row: &[u8]) -> [u8; 16]
+    requires { ⌜ 31 ≤ length (now row) ⌝ }
+{
     let mut code = [0u8; 16];
     for k in 0..16 {
         code[k] = row[15 + k];
     }
+    code
+}
+
+// The access map stands after the code.
+fn enter_party(book: &mut Book, row: &[u8]) -> Answer {
+    if row.len() < 31 {
+        return Answer::Record;
+    }
+    let code = code_in(row);
     let access = numbers_in(&row[31..]).values[0];
     daybook::add_party(book, code, byte(access))
 }
@@ -255,7 +269,7 @@ fn answered(book: &mut Book, row: &[u8], given: [u32; 10]) -> Numbers {
 
 // ---- rows
 
-pub fn row_case(tally: Tally, book: &mut Book, row: &[u8]) -> Tally {
+fn row_case(tally: Tally, book: &mut Book, row: &[u8]) -> Tally {
     let equals = position(row, 0, b'=');
     let words = &row[0..equals];
     let expected = numbers_in(&row[equals..]);
