@@ -1,7 +1,7 @@
 -- The pairs of a right, gathered row by row: their lower sides have the sum of the rules.
 -- Assumes nothing.
-use Prim.Native.Nat.{ℕ, suc, _+_, _-_, _≤_, _<_}
-use mathlib.Core.Path.{_≡_, refl, ap}
+use Prim.Native.Nat.{ℕ, suc, _+_, _-_, _*_, _≤_, _<_}
+use mathlib.Core.Path.{_≡_}
 use mathlib.Core.Bool.{Bool, true, false, cond}
 use mathlib.Core.List.{List, []}
 use native.Mathlib.Omega.{arith}
@@ -10,14 +10,19 @@ use native.Mathlib.Numerals.{add-one}
 use lib.Dec.{eqb}
 use lib.ListN.{length, take, set}
 use lib.Seq.{take-set-le, take-suc-set}
-use Rattle.rules.specs.Book as rules
-use Rattle.rules.specs.Nominations.{lower, lowerTotal}
+use Rattle.rules.specs.Nominations.{lowerTotal}
 use Rattle.cells.specs.Layout.{PAIRS}
 use Rattle.cells.specs.Loops.{rows}
-use Rattle.cells.specs.View.{counted, pairAt, pairsIn, bookOf}
+use Rattle.cells.specs.View.{cell, part, counted, pairAt, pairsIn, bookOf}
 use Rattle.totals.specs.declared.Pair.{Pair}
 use Rattle.totals.specs.Total.{lowerOf, sumOf, totalLower, ruled}
 use Rattle.totals.proofs.Sums.{sum-snoc}
+
+-- the row of a pair
+pub pair-row : (b : List ℕ) (i : ℕ) (x : Pair) → x .right ≡ cell b (PAIRS + 1 + i * 13) → x .out ≡ cell b (PAIRS + 2 + i * 13) → x .into ≡ cell b (PAIRS + 3 + i * 13)
+    → x .«out_mw» ≡ part b (PAIRS + 4 + i * 13) 5 → x .«into_mw» ≡ part b (PAIRS + 9 + i * 13) 5 → ruled x ≡ pairAt b i
+unfolding pairAt
+pair-row b i x r o n u v = rw (r, o, n, u, v)
 
 -- nothing is gathered, and the whole table is left
 pub gather-start : (b : List ℕ) (r k last : ℕ) → last ≡ counted b PAIRS 512 → totalLower k [] + lowerTotal r k (rows (pairAt b) (last - 0) 0) ≡ lowerTotal r k (bookOf b .pairs)

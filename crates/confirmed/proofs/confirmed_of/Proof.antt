@@ -3,14 +3,13 @@
 use Prim.Native.Nat.{_<_}
 use mathlib.Core.Path.{_≡_, sym, _∙_}
 use native.Mathlib.Omega.{arith}
-use borrow.Author.Tests.{not-true, not-false}
 use borrow.Author.Needs.{needs}
 use denote.Ref.{now}
 use Rattle.rules.specs.Refusals.{isMatched}
 use Rattle.cells.specs.Layout.{RIGHTS}
 use Rattle.cells.specs.View.{counted, rightAt, bookOf}
 use Rattle.pairs.proofs.Searches.{Standing, standing-at, standing-none}
-use Rattle.confirmed.proofs.Reading.{no-right, no-pair, not-matched, granted-read}
+use Rattle.confirmed.proofs.Reading.{session-is, no-right, no-pair, not-matched, granted-read}
 use Rattle.confirmed.proofs.confirmed_of.Statement.{statement}
 use Rattle.confirmed.proofs.confirmed_of.Tie as tie
 
@@ -25,7 +24,7 @@ found c = standing-at _ _ _ _ _ (sym (c .before .before .standing-pair .ensures)
 -- the session that is looked up is that of the right
 matched : (c : tie.After-is-matched) → let a = c .before .before .before .before .before .before .before .before .before .args in
     c .is-matched .result ≡ isMatched (bookOf (now (a .book)) .matched) (rightAt (now (a .book)) (a .right) .direction) (rightAt (now (a .book)) (a .right) .session)
-matched c = c .is-matched .ensures ∙ rw (c .before .before .right-direction .ensures, c .before .right-session .ensures)
+matched c = session-is _ _ (c .is-matched .ensures) (c .before .before .right-direction .ensures) (c .before .right-session .ensures)
 
 returns : tie.Need-returns
 returns c = record { reply = rw (c .refused .ensures) (no-right _ _ _ _ (rw (c .before .before .count-in .ensures) at (c .before .if1 .taken))) }
@@ -39,7 +38,7 @@ returns-3 : tie.Need-returns-3
 returns-3 c =
     let m = c .before .before in
     let i = m .before .before .before .before in
-    record { reply = rw (c .refused3 .ensures) (not-matched _ _ _ _ (known (i .before .before .before)) (found i .there) (sym (matched m) ∙ not-true _ (c .before .if2 .taken))) }
+    record { reply = rw (c .refused3 .ensures) (not-matched _ _ _ _ (known (i .before .before .before)) (found i .there) (matched m) (c .before .if2 .taken)) }
 
 confirmed-five-requires : tie.Need-confirmed-five-requires
 confirmed-five-requires c κs =
@@ -51,7 +50,7 @@ returns-4 : tie.Need-returns-4
 returns-4 c =
     let m = c .before .before in
     let i = m .before .before .before .before in
-    record { reply = rw (c .confirmed-five .ensures) (granted-read _ _ _ _ (known (i .before .before .before)) _ (found i .there) (found i .pair-is) (sym (matched m) ∙ not-false _ (c .before .if2 .left))) }
+    record { reply = rw (c .confirmed-five .ensures) (granted-read _ _ _ _ (known (i .before .before .before)) _ (found i .there) (found i .pair-is) (matched m) (c .before .if2 .left)) }
 
 pub confirmed-of-spec : {M : Type 1} → statement M
 confirmed-of-spec =

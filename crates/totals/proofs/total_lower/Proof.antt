@@ -1,6 +1,5 @@
--- `totals::total_lower` meets its contract: a walk of its MIR, by hand. The slice's borrow is looked into once, before the loop, and shut once, after it.
--- The loop's invariant: the sum is that of the pairs passed, and below 2 ^ 32 for each. In a turn element i is taken out of the row, copied into a local and put back, and `lower` is called on the copy.
--- All that the proof knows of `lower` is that it meets its contract. Nothing is kept of the parameters for the exit (`stay-dropped`).
+-- `totals::total_lower` meets its contract, walked by hand. The borrow of the slice is looked into once before the loop and shut once after it.
+-- The sum is that of the pairs passed, and below 2 ^ 32 for each. In a turn a pair is copied out of the row, and `lower` is called on the copy.
 -- Assumes nothing.
 use mathlib.Core.Path.{_≡_, refl, sym, ap, _∙_}
 use Prim.Native.Nat.{ℕ, _+_, _*_, _-_, _<_, _≤_, _^_}

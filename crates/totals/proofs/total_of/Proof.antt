@@ -1,5 +1,5 @@
--- `totals::total_of` meets its contract: a walk of its MIR, by hand. The array is copied into a local that has an address, the first k of its elements are lent to `total_lower` for a lifetime that is made for the call, and come back (`Prefix.antt`).
--- All that the proof knows of `total_lower` is that it meets its contract. The parameters are plain data, of which nothing is kept for the exit (`stay-dropped`).
+-- `totals::total_of` meets its contract, walked by hand. The array is copied into a local that has an address.
+-- The first k of its elements are lent to `total_lower` for a lifetime that is made for the call, and come back (`Prefix.antt`).
 -- Assumes nothing.
 use mathlib.Core.Path.{_≡_, refl, sym, _∙_}
 use Prim.Native.Nat.{ℕ, _<_, _≤_, _^_}
