@@ -155,16 +155,6 @@ right-row b i =
     let k4 : RIGHTS + 4 + i * 8 + 4 ≡ at + 7 = omega arith in
     rw (two, three, k0, k1, k2, k3, k4)
 
--- five MW, one by one
-pub five-mw : (mw : List ℕ) → length mw ≡ 5 → (getD mw 0 0 ∷ getD mw 1 0 ∷ getD mw 2 0 ∷ getD mw 3 0 ∷ getD mw 4 0 ∷ []) ≡ mw
-five-mw [] e = absurd (omega arith)
-five-mw (a ∷ []) e = absurd (omega arith)
-five-mw (a ∷ b ∷ []) e = absurd (omega arith)
-five-mw (a ∷ b ∷ c ∷ []) e = absurd (omega arith)
-five-mw (a ∷ b ∷ c ∷ d ∷ []) e = absurd (omega arith)
-five-mw (a ∷ b ∷ c ∷ d ∷ f ∷ []) e = refl
-five-mw (a ∷ b ∷ c ∷ d ∷ f ∷ g ∷ l) e = absurd (omega arith)
-
 -- models that are not the one-hour model are booked alike
 pub booked-alike : {b b′ : List ℕ} {model h d s : ℕ} {mw : List ℕ} {n : ℕ} → eqb model 1 ≡ false → Booked b 4 h d s mw n b′ → Booked b model h d s mw n b′
 unfolding withRight rightNumber

@@ -9,8 +9,9 @@ use native.Mathlib.Nat.{zero-add}
 use lib.Dec.{eqb, leb, ltb, lit≤}
 use borrow.Author.Tests.{leb-false, ltb-false}
 use lib.ListN.{length, getD, List·getD-eq-default}
+use Rattle.rules.specs.Sessions.{hoursIn}
 use Rattle.rules.specs.Book.{Direction, Party, Pair, place, direction, party, right, leftAt, modelOf}
-use Rattle.rules.specs.Refusals.{hourUnknown}
+use Rattle.rules.specs.Refusals.{directionUnknown, hourUnknown}
 use Rattle.cells.specs.Layout.{DIRECTIONS, PROFILES, PARTIES, OFFERED, GRANTED, MATCHED, RIGHTS, PAIRS}
 use Rattle.cells.specs.View.{cell, part, counted, dayHoursIn, directionAt, directionsIn, profilesIn, partyAt, partiesIn, offeredIn, grantedIn, matchedIn, rightAt, rightsIn, pairAt, pairsIn, bookOf}
 use Rattle.rules.proofs.Bools.{or-left, or-right}
@@ -44,6 +45,19 @@ hours-within b = go (eqb (cell b 0) 23) (eqb (cell b 0) 25)
     go true u = (lit≤ tt, lit≤ tt)
     go false true = (lit≤ tt, lit≤ tt)
     go false false = (lit≤ tt, lit≤ tt)
+
+-- a session has at most five hours
+pub hours-few : (n model s : ℕ) → n ≤ 25 → hoursIn n model s ≤ 5
+unfolding hoursIn
+hours-few n model s h = go (eqb model 1) (leb s 1)
+  where
+    go : (t u : Bool) → cond t 1 (cond u (4 + n - 24) 4) ≤ 5
+    go true u = omega arith
+    go false true = omega arith
+    go false false = omega arith
+
+pub known-direction : (b : List ℕ) (d : ℕ) → directionUnknown (bookOf b) d ≡ false → d < counted b DIRECTIONS 24
+known-direction b d e = rw (direction-count b) at (leb-false (length (bookOf b .directions)) d e)
 
 -- a direction and an hour that are there
 pub record Known (b : List ℕ) (d hour : ℕ) : Type 0 where
