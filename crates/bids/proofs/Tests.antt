@@ -1,19 +1,17 @@
 -- What the tests of a bid find in cells, as the rules find it in the book.
 -- Assumes nothing.
-use Prim.Native.Nat.{ℕ, _+_, _-_, _/_, _%_, _^_, _≤_, _<_}
+use Prim.Native.Nat.{ℕ, _+_, _-_, _≤_, _<_}
 use mathlib.Core.Path.{_≡_, ap, _∙_}
 use mathlib.Core.Bool.{Bool, true, false, cond, not}
 use mathlib.Core.List.{List}
-use native.Mathlib.Nat.{le-trans, div-eq-of-lt}
 use native.Mathlib.Omega.{arith}
 use lib.Dec.{eqb, leb}
 use lib.ListN.{length, getD, List·getD-eq-default}
-use lib.Pow.{pow-mono}
-use borrow.Author.Tests.{leb-false, le-leb, lt-leb}
-use Rattle.rules.specs.Basics.{bit, noMw}
+use borrow.Author.Tests.{le-leb, lt-leb}
+use Rattle.rules.specs.Basics.{noMw}
 use Rattle.rules.specs.Sessions.{sessionThere, firstHour, hoursIn, firstHourThere}
 use Rattle.rules.specs.Bids.{shortage}
-use Rattle.rules.specs.Refusals.{order, firstOf, directionUnknown, sessionUnknown}
+use Rattle.rules.specs.Refusals.{order, firstOf, sessionUnknown}
 use Rattle.rules.specs.Reads.{rightReadRefuses, readRight}
 use Rattle.rules.specs.declared.Answer.the-variants.{Unknown}
 use Rattle.rules.proofs.Sessions.{hours-there}

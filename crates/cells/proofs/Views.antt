@@ -2,7 +2,7 @@
 -- Assumes nothing.
 use Prim.Native.Nat.{ℕ, _+_, _*_, _-_, _≤_, _<_}
 use mathlib.Core.Path.{_≡_, refl, ap, _∙_}
-use mathlib.Core.Bool.{Bool, true, false, cond, _||_}
+use mathlib.Core.Bool.{Bool, true, false, cond, _||_, _&&_, true≢false}
 use mathlib.Core.List.{List, []}
 use native.Mathlib.Omega.{arith}
 use native.Mathlib.Nat.{zero-add}
@@ -130,6 +130,14 @@ right-count b = rows-length (rightAt b) (counted b RIGHTS 512) 0
 pub right-at : (b : List ℕ) (r : ℕ) → r < counted b RIGHTS 512 → right (bookOf b .rights) r ≡ rightAt b r
 unfolding bookOf rightsIn
 right-at b r l = rows-at (rightAt b) (counted b RIGHTS 512) 0 r _ l ∙ ap (rightAt b) (zero-add r)
+
+-- a table that is not full where an entry is needed
+pub has-room : (n limit : ℕ) (need : Bool) → (leb limit n && need) ≡ false → need ≡ true → n < limit
+has-room n limit need e h = go (leb limit n) refl
+  where
+    go : (t : Bool) → leb limit n ≡ t → n < limit
+    go true t = absurd (true≢false (rw (t, h) at e))
+    go false t = leb-false limit n t
 
 -- ---- pairs and matched sessions
 
