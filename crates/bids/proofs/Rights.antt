@@ -2,12 +2,12 @@
 -- Assumes nothing.
 use Prim.Native.Nat.{ℕ, zero, suc, _+_, _*_, _%_, _≤_, _<_}
 use mathlib.Core.Path.{_≡_, refl, sym, ap, _∙_}
-use mathlib.Core.Bool.{Bool, true, false, cond, _&&_, true≢false}
+use mathlib.Core.Bool.{Bool, true, false, cond, _&&_}
 use mathlib.Core.List.{List, [], _∷_, _++_}
 use native.Mathlib.Omega.{arith}
 use lib.Dec.{leb, ltb, eqb}
-use lib.ListN.{length, getD, set}
-use borrow.Author.Tests.{lt-ltb, le-ltb, leb-false}
+use lib.ListN.{length, set}
+use borrow.Author.Tests.{lt-ltb, le-ltb}
 use Rattle.rules.specs.Book.{Right}
 use Rattle.rules.specs.Bids.{isRightOf, rightTaken, withRight, rightNumber}
 use Rattle.cells.specs.Layout.{CELLS, RIGHTS}
@@ -18,7 +18,7 @@ use Rattle.cells.specs.Updates.{withRights}
 use Rattle.cells.proofs.Firsts.{placeOf, place-le, some-is, changed-there, changed-new, tryRow, search-at, search-none, right-from, right-taken, raised, added-right}
 use Rattle.cells.proofs.Tables.{right-more, length-row}
 use Rattle.cells.proofs.Raised.{right-raised, length-five}
-use Rattle.cells.proofs.Views.{right-count, right-at}
+use Rattle.cells.proofs.Views.{right-count, right-at, has-room}
 use Rattle.bids.specs.declared.Found.{Found}
 use Rattle.bids.specs.declared.Found.the-variants.{At, Nothing}
 use Rattle.bids.specs.Work.{tryRight, standingIn, Opened, Booked}
@@ -64,11 +64,7 @@ taken-by-none b h d s e = taken-is b h d s ∙ le-ltb (place b h d s) (length (b
 
 -- a table that is not full where a right is needed
 pub room-for : (b : List ℕ) (need : Bool) → (leb 512 (length (bookOf b .rights)) && need) ≡ false → need ≡ true → counted b RIGHTS 512 < 512
-room-for b need e h = rw (right-count b) at (go (leb 512 (length (bookOf b .rights))) refl)
-  where
-    go : (t : Bool) → leb 512 (length (bookOf b .rights)) ≡ t → length (bookOf b .rights) < 512
-    go true t = absurd (true≢false (rw (t, h) at e))
-    go false t = leb-false 512 (length (bookOf b .rights)) t
+room-for b need e h = rw (right-count b) at (has-room (length (bookOf b .rights)) 512 need e h)
 
 -- ---- a new right
 
@@ -154,16 +150,6 @@ right-row b i =
     let k3 : RIGHTS + 4 + i * 8 + 3 ≡ at + 6 = omega arith in
     let k4 : RIGHTS + 4 + i * 8 + 4 ≡ at + 7 = omega arith in
     rw (two, three, k0, k1, k2, k3, k4)
-
--- five MW, one by one
-pub five-mw : (mw : List ℕ) → length mw ≡ 5 → (getD mw 0 0 ∷ getD mw 1 0 ∷ getD mw 2 0 ∷ getD mw 3 0 ∷ getD mw 4 0 ∷ []) ≡ mw
-five-mw [] e = absurd (omega arith)
-five-mw (a ∷ []) e = absurd (omega arith)
-five-mw (a ∷ b ∷ []) e = absurd (omega arith)
-five-mw (a ∷ b ∷ c ∷ []) e = absurd (omega arith)
-five-mw (a ∷ b ∷ c ∷ d ∷ []) e = absurd (omega arith)
-five-mw (a ∷ b ∷ c ∷ d ∷ f ∷ []) e = refl
-five-mw (a ∷ b ∷ c ∷ d ∷ f ∷ g ∷ l) e = absurd (omega arith)
 
 -- models that are not the one-hour model are booked alike
 pub booked-alike : {b b′ : List ℕ} {model h d s : ℕ} {mw : List ℕ} {n : ℕ} → eqb model 1 ≡ false → Booked b 4 h d s mw n b′ → Booked b model h d s mw n b′

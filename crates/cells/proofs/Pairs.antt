@@ -1,7 +1,7 @@
 -- The table of pairs: its searches and changes by the rules, a pair more, and a pair with one side replaced.
 -- Assumes nothing.
-use Prim.Native.Nat.{ℕ, zero, suc, _+_, _*_, _-_, _≤_, _<_}
-use mathlib.Core.Path.{_≡_, refl, sym, ap, subst, _∙_}
+use Prim.Native.Nat.{ℕ, suc, _+_, _*_, _-_, _≤_, _<_}
+use mathlib.Core.Path.{_≡_, refl, ap, subst, _∙_}
 use mathlib.Core.Logic.{_≢_}
 use mathlib.Core.Bool.{Bool, true, false, cond, _||_}
 use mathlib.Core.List.{List, [], _∷_, _++_}
@@ -10,7 +10,7 @@ use native.Mathlib.Nat.{add-zero, zero-add}
 use borrow.Author.Tests.{eqb-true, eqb-false}
 use lib.Dec.{eqb}
 use lib.ListN.{getD, set, length, length-append, List·getD-append}
-use lib.Seq.{sets, length-sets, getD-append-add}
+use lib.Seq.{sets, getD-append-add}
 use Rattle.rules.specs.Book.{Pair}
 use Rattle.rules.specs.Nominations.{isPairOf, pairTaken, emptyPair, pairOf, withSide, withPair}
 use Rattle.cells.specs.Layout.{CELLS, PAIRS}
@@ -18,7 +18,6 @@ use Rattle.cells.specs.View.{cell, part, counted, pairAt, pairsIn, bookO
 use Rattle.cells.specs.Stores.{withRow}
 use Rattle.cells.specs.Updates.{withPairs}
 use Rattle.cells.proofs.Regions.{only-pairs, part-agree}
-use Rattle.cells.proofs.Stores.{part-at, part-length}
 use Rattle.cells.proofs.Tables.{part-own, part-written, row-cell, row-within, table-more, sets-other, sets-at}
 use Rattle.cells.proofs.Firsts.{placeOf, someOf, changed, table-set}
 

@@ -1,7 +1,8 @@
 // The search for a pair in the cells.
 ghost use mathlib.Core.Path.{_≡_};
-ghost use Prim.Native.Nat.{_<_};
+ghost use Prim.Native.Nat.{_+_, _*_, _<_, _≤_};
 ghost use Rattle.rules.specs.Nominations.{isPairOf};
+ghost use Rattle.cells.specs.Layout.{PAIRS};
 ghost use Rattle.cells.specs.View.{pairAt};
 ghost use Rattle.pairs.specs.Search.{standingIn};
 use cells::Book;
@@ -10,6 +11,14 @@ use cells::Book;
 pub enum Found {
     At(u32),
     Nothing,
+}
+
+// Where the five MW of one side of a pair stand.
+pub fn side_at(pair: u32, side: u8) -> usize
+    requires { ⌜ (pair < 512) × (side ≤ 1) ⌝ }
+    ensures { λ r. ⌜ r ≡ PAIRS + 4 + pair * 13 + 5 * side ⌝ }
+{
+    cells::PAIRS + 4 + pair as usize * 13 + 5 * side as usize
 }
 
 // The pair number i is that of a right, an out party and an in party.
