@@ -36,7 +36,7 @@ use Rattle.pairs.proofs.Searches.{standing-at, standing-none}
 use Rattle.answers.specs.Promises.{Answers}
 use Rattle.answers.proofs.Laws.{granted}
 use Rattle.nominations.proofs.Verdicts.{known-nomination}
-use Rattle.nominations.specs.Work.{Opened, Seated, Placed}
+use Rattle.nominations.specs.Work.{Opened, PairThere, Placed}
 
 -- what a nomination that nothing refuses may rely on
 pub record Ready (b : List ℕ) (p o r side : ℕ) : Type 0 where
@@ -57,7 +57,7 @@ ready b t p o r side mw g =
 -- ---- the pair
 
 -- one that the search found
-pub found-seated : (b : List ℕ) (r o i k : ℕ) → length b ≡ CELLS → standingIn b r o i ≡ At k → Seated b r o i k b
+pub found-seated : (b : List ℕ) (r o i k : ℕ) → length b ≡ CELLS → standingIn b r o i ≡ At k → PairThere b r o i k b
 found-seated b r o i k u e =
     let f = standing-at b r o i k e in
     let p = f .place-is in
@@ -99,7 +99,7 @@ module _ (b : List ℕ) (r o i : ℕ) (e : standingIn b r o i ≡ Nothing) where
         sym (pair-at b′ n (emptyPair r o i) opened-row)
         ∙ rw (opened-pairs, here) (getD-append-seam (bookOf b .pairs) (emptyPair r o i) [] (emptyPair r o i))
 
-    pub opened-seated : Seated b r o i n b′
+    pub opened-seated : PairThere b r o i n b′
     opened-seated =
         record {
           count = ap length (w .cells-are) ∙ length-row PAIRS n _ b ∙ w .cells .count;
@@ -123,7 +123,7 @@ pub room-there : (b : List ℕ) (p o r side out into : ℕ) → Ready b p o r si
 room-there b p o r side out into ok po pi = rw (po, pi) (ok .room)
 
 module _ (b : List ℕ) (t p o r side : ℕ) (mw : List ℕ) (ok : Ready b p o r side) (size : length mw ≡ 5) (out into k : ℕ) (b1 b2 b3 : List ℕ)
-    (po : out ≡ outOf p o side) (pi : into ≡ intoOf p o side) (s : Seated b r out into k b1)
+    (po : out ≡ outOf p o side) (pi : into ≡ intoOf p o side) (s : PairThere b r out into k b1)
     (e2 : b2 ≡ sets b1 (PAIRS + 4 + k * 13 + 5 * side) mw) (e3 : b3 ≡ clocked t b2) where
   abbrev after : List Pair
   after = withPair r (outOf p o side) (intoOf p o side) side mw (bookOf b .pairs)

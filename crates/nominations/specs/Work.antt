@@ -41,7 +41,7 @@ pub record Opened (b : List ℕ) (r o i n : ℕ) (b′ : List ℕ) : Type 0 wher
   pub cells-are : b′ ≡ withRow PAIRS n (r ∷ o ∷ i ∷ (noMw ++ noMw)) b
 
 -- the pair stands at row k, and its side is all that is left to replace
-pub record Seated (b : List ℕ) (r o i k : ℕ) (b′ : List ℕ) : Type 0 where
+pub record PairThere (b : List ℕ) (r o i k : ℕ) (b′ : List ℕ) : Type 0 where
   pub count : length b′ ≡ CELLS
   pub row : k < counted b′ PAIRS 512
   pub rest : bookOf b′ ≡ withPairs (bookOf b) (bookOf b′ .pairs)

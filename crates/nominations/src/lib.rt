@@ -14,7 +14,7 @@ ghost use Rattle.rules.specs.Refusals.{partyUnknown, rightUnknown, hoursLacking
 ghost use Rattle.cells.specs.Layout.{PARTIES, RIGHTS, PAIRS};
 ghost use Rattle.cells.specs.View.{bookOf, counted};
 ghost use Rattle.answers.specs.Promises.{Judged, Answers};
-ghost use Rattle.nominations.specs.Work.{holderOf, directionOf, sessionOf, operatorOf, Opened, Seated, Placed};
+ghost use Rattle.nominations.specs.Work.{holderOf, directionOf, sessionOf, operatorOf, Opened, PairThere, Placed};
 use answers::Verdict;
 use cells::Book;
 use pairs::Found;
@@ -214,9 +214,9 @@ fn open_pair(book: &mut Book, right: u32, out: u32, into: u32) -> u32
 }
 
 // The number of the pair of a right and two parties, which is opened where there is none.
-fn seat_pair(book: &mut Book, right: u32, out: u32, into: u32) -> u32
+fn take_pair(book: &mut Book, right: u32, out: u32, into: u32) -> u32
     requires { ⌜ (leb 512 (length (bookOf (now book) .pairs)) && not (pairTaken right out into (bookOf (now book) .pairs))) ≡ false ⌝ }
-    ensures { λ r. ⌜ Seated (now (book .entry)) right out into r (now (book .exit)) ⌝ }
+    ensures { λ r. ⌜ PairThere (now (book .entry)) right out into r (now (book .exit)) ⌝ }
 {
     let cells = cells::cells_in(book);
     let Found::At(pair) = pairs::standing_pair(book, right, out, into) else {
@@ -256,7 +256,7 @@ fn place_nomination(
 {
     let out = out_party(sender, other, side);
     let into = in_party(sender, other, side);
-    let pair = seat_pair(book, right as u32, out, into);
+    let pair = take_pair(book, right as u32, out, into);
     write_side(book, pair, side, mw);
     cells::set_clock(book, time);
     marks::marks(book, right, side)

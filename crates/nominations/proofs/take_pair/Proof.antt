@@ -1,10 +1,10 @@
--- `nominations::seat_pair` meets its contract.
+-- `nominations::take_pair` meets its contract.
 -- Assumes nothing.
 use borrow.Author.Needs.{needs}
 use mathlib.Core.Path.{sym, _∙_}
 use Rattle.nominations.proofs.Placing.{room-left, opened-seated, found-seated}
-use Rattle.nominations.proofs.seat_pair.Statement.{statement}
-use Rattle.nominations.proofs.seat_pair.Tie as tie
+use Rattle.nominations.proofs.take_pair.Statement.{statement}
+use Rattle.nominations.proofs.take_pair.Tie as tie
 
 open-pair-requires : tie.Need-open-pair-requires
 open-pair-requires c κs =
@@ -22,8 +22,8 @@ returns-2 c =
     let f = c .before .before .before in
     found-seated _ _ _ _ _ (f .before .before .cells-in .ensures .count) (sym (f .standing-pair .ensures) ∙ c .before .pair .given .1)
 
-pub seat-pair-spec : {M : Type 1} → statement M
-seat-pair-spec =
+pub take-pair-spec : {M : Type 1} → statement M
+take-pair-spec =
     tie.close
     (tie.spec
     (λ c κs. search needs)
