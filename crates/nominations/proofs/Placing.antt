@@ -57,8 +57,8 @@ ready b t p o r side mw g =
 -- ---- the pair
 
 -- one that the search found
-pub found-seated : (b : List ℕ) (r o i k : ℕ) → length b ≡ CELLS → standingIn b r o i ≡ At k → PairThere b r o i k b
-found-seated b r o i k u e =
+pub found-there : (b : List ℕ) (r o i k : ℕ) → length b ≡ CELLS → standingIn b r o i ≡ At k → PairThere b r o i k b
+found-there b r o i k u e =
     let f = standing-at b r o i k e in
     let p = f .place-is in
     record {
@@ -99,8 +99,8 @@ module _ (b : List ℕ) (r o i : ℕ) (e : standingIn b r o i ≡ Nothing) where
         sym (pair-at b′ n (emptyPair r o i) opened-row)
         ∙ rw (opened-pairs, here) (getD-append-seam (bookOf b .pairs) (emptyPair r o i) [] (emptyPair r o i))
 
-    pub opened-seated : PairThere b r o i n b′
-    opened-seated =
+    pub opened-there : PairThere b r o i n b′
+    opened-there =
         record {
           count = ap length (w .cells-are) ∙ length-row PAIRS n _ b ∙ w .cells .count;
           row = opened-row;

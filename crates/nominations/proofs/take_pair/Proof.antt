@@ -2,7 +2,7 @@
 -- Assumes nothing.
 use borrow.Author.Needs.{needs}
 use mathlib.Core.Path.{sym, _∙_}
-use Rattle.nominations.proofs.Placing.{room-left, opened-seated, found-seated}
+use Rattle.nominations.proofs.Placing.{room-left, opened-there, found-there}
 use Rattle.nominations.proofs.take_pair.Statement.{statement}
 use Rattle.nominations.proofs.take_pair.Tie as tie
 
@@ -15,12 +15,12 @@ returns : tie.Need-returns
 returns c =
     let f = c .before .before .before .before in
     let e = sym (f .standing-pair .ensures) ∙ c .before .before .enum-told .given .1 in
-    opened-seated _ _ _ _ e _ _ (room-left _ _ _ _ e (f .before .before .before .before .pre)) (c .open-pair .ensures)
+    opened-there _ _ _ _ e _ _ (room-left _ _ _ _ e (f .before .before .before .before .pre)) (c .open-pair .ensures)
 
 returns-2 : tie.Need-returns-2
 returns-2 c =
     let f = c .before .before .before in
-    found-seated _ _ _ _ _ (f .before .before .cells-in .ensures .count) (sym (f .standing-pair .ensures) ∙ c .before .pair .given .1)
+    found-there _ _ _ _ _ (f .before .before .cells-in .ensures .count) (sym (f .standing-pair .ensures) ∙ c .before .pair .given .1)
 
 pub take-pair-spec : {M : Type 1} → statement M
 take-pair-spec =
