@@ -5,108 +5,19 @@ use answers::RightRead;
 use cells::Book;
 use printing::Tally;
 use printing::counted;
-use printing::number;
 use printing::position;
 use printing::text;
+use row_numbers::Numbers;
+use row_numbers::and;
+use row_numbers::none;
+use row_numbers::numbers_in;
+use row_numbers::print_numbers;
+use row_numbers::same_numbers;
 use rules::Answer;
 use rules::Hour;
 use rules::Session;
 ghost use Prim.Native.Nat.{_≤_};
 ghost use lib.ListN.{length};
-
-// The most numbers that a row has on either side.
-const MOST: usize = 10;
-
-struct Numbers {
-    count: usize,
-    values: [u32; 10],
-}
-
-// ---- the numbers in a text
-
-fn is_digit(byte: u8) -> bool {
-    b'0' <= byte && byte <= b'9'
-}
-
-fn none() -> Numbers {
-    Numbers {
-        count: 0,
-        values: [0; 10],
-    }
-}
-
-// One number more, while there is room.
-fn and(before: Numbers, value: u32) -> Numbers {
-    let count = before.count;
-    let mut values = before.values;
-    if MOST <= count {
-        return before;
-    }
-    values[count] = value;
-    Numbers {
-        count: count + 1,
-        values,
-    }
-}
-
-// The last number with a digit more; no number of a row has more than six.
-fn and_digit(before: Numbers, digit: u8) -> Numbers {
-    let count = before.count;
-    let mut values = before.values;
-    if count == 0 {
-        return before;
-    }
-    let last = count - 1;
-    if MOST <= last {
-        return before;
-    }
-    values[last] = values[last] % 100000 * 10 + digit as u32;
-    Numbers { count, values }
-}
-
-// A byte that follows the others; `within` says that a digit stands just before it.
-fn and_byte(before: Numbers, within: bool, byte: u8) -> Numbers {
-    if !is_digit(byte) {
-        return before;
-    }
-    let digit = byte % 16;
-    if within {
-        return and_digit(before, digit);
-    }
-    and(before, digit as u32)
-}
-
-fn numbers_in(bytes: &[u8]) -> Numbers {
-    let mut numbers = none();
-    let mut within = false;
-    for k in 0..bytes.len() {
-        let byte = bytes[k];
-        numbers = and_byte(numbers, within, byte);
-        within = is_digit(byte);
-    }
-    numbers
-}
-
-fn same_numbers(one: Numbers, other: Numbers) -> bool {
-    if one.count != other.count {
-        return false;
-    }
-    for k in 0..MOST {
-        if one.values[k] != other.values[k] {
-            return false;
-        }
-    }
-    true
-}
-
-fn print_numbers(numbers: Numbers) {
-    for k in 0..MOST {
-        if k < numbers.count {
-            text(b" ");
-            number(numbers.values[k] as u64);
-        }
-    }
-}
 
 // ---- what a call or a read answers
 

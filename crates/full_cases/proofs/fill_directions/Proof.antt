@@ -1,18 +1,18 @@
--- `call_cases::full::fill_profiles` is safe and ends.
+-- `full_cases::fill_directions` is safe and ends.
 -- Assumes nothing.
 use borrow.Author.Needs.{needs}
 use Prim.Native.Nat.{_≤_, _-_}
-use Rattle.call_cases.proofs.full.fill_profiles.Statement.{statement}
-use Rattle.call_cases.proofs.full.fill_profiles.Tie as tie
+use Rattle.full_cases.proofs.fill_directions.Statement.{statement}
+use Rattle.full_cases.proofs.fill_directions.Tie as tie
 
 abbrev Inv-loop : tie.InvT-loop
-Inv-loop book₀ count₀ k₀ book count k = k ≤ 20
+Inv-loop book₀ count₀ k₀ book count k = k ≤ 49
 
 abbrev μ-loop : tie.MeasureT-loop
-μ-loop book₀ count₀ k₀ book count k = 20 - k
+μ-loop book₀ count₀ k₀ book count k = 49 - k
 
-pub fill-profiles-spec : {M : Type 1} → statement M
-fill-profiles-spec =
+pub fill-directions-spec : {M : Type 1} → statement M
+fill-directions-spec =
     tie.close
     (tie.spec
     Inv-loop

@@ -1,18 +1,18 @@
--- `call_cases::full::fill_rights` is safe and ends.
+-- `full_cases::fill_pairs` is safe and ends.
 -- Assumes nothing.
 use borrow.Author.Needs.{needs}
 use Prim.Native.Nat.{_≤_, _-_}
-use Rattle.call_cases.proofs.full.fill_rights.Statement.{statement}
-use Rattle.call_cases.proofs.full.fill_rights.Tie as tie
+use Rattle.full_cases.proofs.fill_pairs.Statement.{statement}
+use Rattle.full_cases.proofs.fill_pairs.Tie as tie
 
 abbrev Inv-loop : tie.InvT-loop
-Inv-loop book₀ count₀ k₀ book count k = k ≤ 600
+Inv-loop book₀ count₀ right₀ book count right = right ≤ 600
 
 abbrev μ-loop : tie.MeasureT-loop
-μ-loop book₀ count₀ k₀ book count k = 600 - k
+μ-loop book₀ count₀ right₀ book count right = 600 - right
 
-pub fill-rights-spec : {M : Type 1} → statement M
-fill-rights-spec =
+pub fill-pairs-spec : {M : Type 1} → statement M
+fill-pairs-spec =
     tie.close
     (tie.spec
     Inv-loop

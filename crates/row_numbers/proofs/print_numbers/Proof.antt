@@ -1,9 +1,9 @@
--- `call_rows::print_numbers` is safe and ends.
+-- `row_numbers::print_numbers` is safe and ends.
 -- Assumes nothing.
 use borrow.Author.Needs.{needs}
 use Prim.Native.Nat.{_≤_, _-_}
-use Rattle.call_rows.proofs.print_numbers.Statement.{statement}
-use Rattle.call_rows.proofs.print_numbers.Tie as tie
+use Rattle.row_numbers.proofs.print_numbers.Statement.{statement}
+use Rattle.row_numbers.proofs.print_numbers.Tie as tie
 
 abbrev Inv-loop : tie.InvT-loop
 Inv-loop numbers k₀ t4 k = k ≤ 10

@@ -1,9 +1,9 @@
--- `call_rows::numbers_in` is safe and ends.
+-- `row_numbers::numbers_in` is safe and ends.
 -- Assumes nothing.
 use borrow.Author.Needs.{needs}
 use Prim.Native.Nat.{_≤_, _-_}
-use Rattle.call_rows.proofs.numbers_in.Statement.{statement}
-use Rattle.call_rows.proofs.numbers_in.Tie as tie
+use Rattle.row_numbers.proofs.numbers_in.Statement.{statement}
+use Rattle.row_numbers.proofs.numbers_in.Tie as tie
 
 abbrev Inv-loop : tie.InvT-loop
 Inv-loop bytes numbers₀ within₀ k₀ k-end numbers within k = k ≤ k-end

@@ -108,12 +108,11 @@ fn setup_cases(before: Tally, book: &mut Book) -> Tally {
 }
 
 // The four-hour right takes another bid, and the standing pair another nomination.
-pub fn run(before: Tally, book: &mut Book) -> Tally {
+fn timed_cases(before: Tally, book: &mut Book) -> Tally {
     let one_right = ONE_RIGHT;
     let rights_are_full = RIGHTS_ARE_FULL;
     let pairs_are_full = PAIRS_ARE_FULL;
-    let mut tally = setup_cases(before, book);
-    tally = row_cases(tally, book, &one_right);
+    let mut tally = row_cases(before, book, &one_right);
     tally = count_case(tally, b"600 bids for new rights", fill_rights(book), 511);
     tally = row_cases(tally, book, &rights_are_full);
     tally = count_case(
@@ -123,4 +122,10 @@ pub fn run(before: Tally, book: &mut Book) -> Tally {
         512,
     );
     row_cases(tally, book, &pairs_are_full)
+}
+
+pub fn run(before: Tally) -> Tally {
+    let mut book = [0u32; 14129];
+    let tally = setup_cases(before, &mut book);
+    timed_cases(tally, &mut book)
 }

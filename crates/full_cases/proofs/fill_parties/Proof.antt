@@ -1,9 +1,9 @@
--- `call_cases::full::fill_parties` is safe and ends.
+-- `full_cases::fill_parties` is safe and ends.
 -- Assumes nothing.
 use borrow.Author.Needs.{needs}
 use Prim.Native.Nat.{_≤_, _-_}
-use Rattle.call_cases.proofs.full.fill_parties.Statement.{statement}
-use Rattle.call_cases.proofs.full.fill_parties.Tie as tie
+use Rattle.full_cases.proofs.fill_parties.Statement.{statement}
+use Rattle.full_cases.proofs.fill_parties.Tie as tie
 
 abbrev Inv-loop : tie.InvT-loop
 Inv-loop book₀ count₀ k₀ book count k = k ≤ 100
