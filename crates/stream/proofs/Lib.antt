@@ -1,0 +1,4 @@
+pub mod Made
+pub mod Taking
+pub mod Front
+pub mod Printing
