@@ -2,7 +2,8 @@
 ghost use mathlib.Core.Path.{_≡_};
 ghost use Prim.Native.Nat.{_-_};
 ghost use lib.Dec.{ltb};
-ghost use Rattle.rules.specs.Refusals.{directionUnknown, hourUnknown};
+ghost use Rattle.rules.specs.Basics.{bit};
+ghost use Rattle.rules.specs.Refusals.{partyUnknown, directionUnknown, hourUnknown};
 ghost use Rattle.cells.specs.View.{bookOf};
 use cells::Book;
 use rules::Answer;
@@ -61,4 +62,17 @@ pub fn hour_unknown(book: &Book, hour: u8) -> bool
     ensures { λ r. ⌜ r ≡ hourUnknown (bookOf (now (book .entry))) hour ⌝ }
 {
     hour < 1 || cells::hours(book) < hour
+}
+
+pub fn party_unknown(book: &Book, party: u8) -> bool
+    ensures { λ r. ⌜ r ≡ partyUnknown (bookOf (now (book .entry))) party ⌝ }
+{
+    cells::count_in(book, cells::PARTIES, 64) <= party as u32
+}
+
+// The bit of an operator in an access map; operators past the map have none.
+pub fn has_access(map: u32, operator: u32) -> bool
+    ensures { λ r. ⌜ r ≡ bit map operator ⌝ }
+{
+    operator < 32 && (map >> operator) % 2 == 1
 }

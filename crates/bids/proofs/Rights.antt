@@ -2,13 +2,12 @@
 -- Assumes nothing.
 use Prim.Native.Nat.{ℕ, zero, suc, _+_, _*_, _%_, _≤_, _<_}
 use mathlib.Core.Path.{_≡_, refl, sym, ap, _∙_}
-use mathlib.Core.Bool.{Bool, true, false, cond, _||_, _&&_, true≢false}
+use mathlib.Core.Bool.{Bool, true, false, cond, _&&_}
 use mathlib.Core.List.{List, [], _∷_, _++_}
 use native.Mathlib.Omega.{arith}
-use native.Mathlib.Nat.{zero-add}
-use lib.Dec.{leb, ltb, eqb, leb·suc-suc}
-use lib.ListN.{length, getD, set}
-use borrow.Author.Tests.{ltb-true, ltb-false, lt-ltb, le-ltb, leb-false}
+use lib.Dec.{leb, ltb, eqb}
+use lib.ListN.{length, set}
+use borrow.Author.Tests.{lt-ltb, le-ltb}
 use Rattle.rules.specs.Book.{Right}
 use Rattle.rules.specs.Bids.{isRightOf, rightTaken, withRight, rightNumber}
 use Rattle.cells.specs.Layout.{CELLS, RIGHTS}
@@ -16,10 +15,10 @@ use Rattle.cells.specs.Loops.{each, rows}
 use Rattle.cells.specs.View.{cell, cellFrom, part, counted, rightAt, rightsIn, bookOf}
 use Rattle.cells.specs.Bids.{addedFive}
 use Rattle.cells.specs.Updates.{withRights}
-use Rattle.cells.proofs.Firsts.{placeOf, changed-there, changed-new, search-is, tryRow, right-from, raised, added-right}
+use Rattle.cells.proofs.Firsts.{placeOf, place-le, some-is, changed-there, changed-new, tryRow, search-at, search-none, right-from, right-taken, raised, added-right}
 use Rattle.cells.proofs.Tables.{right-more, length-row}
 use Rattle.cells.proofs.Raised.{right-raised, length-five}
-use Rattle.cells.proofs.Views.{right-count, right-at}
+use Rattle.cells.proofs.Views.{right-count, right-at, has-room}
 use Rattle.bids.specs.declared.Found.{Found}
 use Rattle.bids.specs.declared.Found.the-variants.{At, Nothing}
 use Rattle.bids.specs.Work.{tryRight, standingIn, Opened, Booked}
@@ -34,73 +33,38 @@ unfolding each tryRight tryRow
 tries b h d s zero k = refl
 tries b h d s (suc n) k = ap (λ (f : Found). cond (isRightOf h d s (rightAt b k)) (At k) f) (tries b h d s n (k + 1))
 
-pub standing-is : (b : List ℕ) (h d s : ℕ) → standingIn b h d s ≡ cond (ltb (place b h d s) (counted b RIGHTS 512)) (At (place b h d s)) Nothing
-unfolding standingIn bookOf rightsIn
-standing-is b h d s =
-    tries b h d s (counted b RIGHTS 512) 0
-    ∙ search-is (isRightOf h d s) At Nothing (rightAt b) (counted b RIGHTS 512) 0
-    ∙ rw zero-add
-
-pub taken-is : (h d s : ℕ) (rs : List Right) → rightTaken h d s rs ≡ ltb (placeOf (isRightOf h d s) rs) (length rs)
-unfolding rightTaken placeOf
-taken-is h d s [] = refl
-taken-is h d s (x ∷ rs) = go (isRightOf h d s x) (taken-is h d s rs)
-  where
-    go : (t : Bool) → rightTaken h d s rs ≡ ltb (placeOf (isRightOf h d s) rs) (length rs)
-        → (t || rightTaken h d s rs) ≡ ltb (cond t 0 (suc (placeOf (isRightOf h d s) rs))) (suc (length rs))
-    go true e = sym (lt-ltb 0 (suc (length rs)) (omega arith))
-    go false e = e ∙ sym (leb·suc-suc (suc (placeOf (isRightOf h d s) rs)) (length rs))
-
-place-le : (h d s : ℕ) (rs : List Right) → placeOf (isRightOf h d s) rs ≤ length rs
-unfolding placeOf
-place-le h d s [] = omega arith
-place-le h d s (x ∷ rs) = go (isRightOf h d s x) (place-le h d s rs)
-  where
-    go : (t : Bool) → placeOf (isRightOf h d s) rs ≤ length rs → cond t 0 (suc (placeOf (isRightOf h d s) rs)) ≤ suc (length rs)
-    go true e = omega arith
-    go false e = omega arith
-
 -- a standing right was found, or none
 pub found-at : (b : List ℕ) (h d s i : ℕ) → standingIn b h d s ≡ At i → (i ≡ place b h d s) × (i < counted b RIGHTS 512)
-found-at b h d s i e = go (ltb (place b h d s) (counted b RIGHTS 512)) refl
-  where
-    go : (t : Bool) → ltb (place b h d s) (counted b RIGHTS 512) ≡ t → (i ≡ place b h d s) × (i < counted b RIGHTS 512)
-    go true t =
-        let q : At (place b h d s) ≡ At i = rw t at (sym (standing-is b h d s) ∙ e) in
-        let r : place b h d s ≡ i = cc in
-        (sym r, rw (← r) (ltb-true (place b h d s) (counted b RIGHTS 512) t))
-    go false t =
-        let q : Nothing ≡ At i = rw t at (sym (standing-is b h d s) ∙ e) in
-        let z : _≡_ {A = ℕ} 0 1 = cc in
-        absurd (omega arith)
+unfolding standingIn bookOf rightsIn
+found-at b h d s i e =
+    search-at (isRightOf h d s) At Nothing (rightAt b) (counted b RIGHTS 512) i
+    (λ x q. cc)
+    (λ q. let z : _≡_ {A = ℕ} 0 1 = cc in omega arith)
+    (sym (tries b h d s (counted b RIGHTS 512) 0) ∙ e)
 
-pub found-none : (b : List ℕ) (h d s : ℕ) → standingIn b h d s ≡ Nothing → counted b RIGHTS 512 ≤ place b h d s
-found-none b h d s e = go (ltb (place b h d s) (counted b RIGHTS 512)) refl
-  where
-    go : (t : Bool) → ltb (place b h d s) (counted b RIGHTS 512) ≡ t → counted b RIGHTS 512 ≤ place b h d s
-    go true t =
-        let q : At (place b h d s) ≡ Nothing = rw t at (sym (standing-is b h d s) ∙ e) in
-        let z : _≡_ {A = ℕ} 0 1 = cc in
-        absurd (omega arith)
-    go false t = ltb-false (place b h d s) (counted b RIGHTS 512) t
+found-none : (b : List ℕ) (h d s : ℕ) → standingIn b h d s ≡ Nothing → counted b RIGHTS 512 ≤ place b h d s
+unfolding standingIn bookOf rightsIn
+found-none b h d s e =
+    search-none (isRightOf h d s) At Nothing (rightAt b) (counted b RIGHTS 512)
+    (λ x q. let z : _≡_ {A = ℕ} 0 1 = cc in omega arith)
+    (sym (tries b h d s (counted b RIGHTS 512) 0) ∙ e)
+
+taken-is : (b : List ℕ) (h d s : ℕ) → rightTaken h d s (bookOf b .rights) ≡ ltb (place b h d s) (length (bookOf b .rights))
+taken-is b h d s = right-taken h d s (bookOf b .rights) ∙ some-is (isRightOf h d s) (bookOf b .rights)
 
 pub taken-by : (b : List ℕ) (h d s i : ℕ) → standingIn b h d s ≡ At i → rightTaken h d s (bookOf b .rights) ≡ true
 taken-by b h d s i e =
     let f = found-at b h d s i e in
-    taken-is h d s (bookOf b .rights) ∙ lt-ltb (place b h d s) (length (bookOf b .rights)) (rw (right-count b, ← f .0) (f .1))
+    taken-is b h d s ∙ lt-ltb (place b h d s) (length (bookOf b .rights)) (rw (right-count b, ← f .0) (f .1))
 
 pub taken-by-none : (b : List ℕ) (h d s : ℕ) → standingIn b h d s ≡ Nothing → rightTaken h d s (bookOf b .rights) ≡ false
-taken-by-none b h d s e = taken-is h d s (bookOf b .rights) ∙ le-ltb (place b h d s) (length (bookOf b .rights)) (rw (right-count b) (found-none b h d s e))
+taken-by-none b h d s e = taken-is b h d s ∙ le-ltb (place b h d s) (length (bookOf b .rights)) (rw (right-count b) (found-none b h d s e))
 
 -- ---- room for a new right
 
 -- a table that is not full where a right is needed
 pub room-for : (b : List ℕ) (need : Bool) → (leb 512 (length (bookOf b .rights)) && need) ≡ false → need ≡ true → counted b RIGHTS 512 < 512
-room-for b need e h = rw (right-count b) at (go (leb 512 (length (bookOf b .rights))) refl)
-  where
-    go : (t : Bool) → leb 512 (length (bookOf b .rights)) ≡ t → length (bookOf b .rights) < 512
-    go true t = absurd (true≢false (rw (t, h) at e))
-    go false t = leb-false 512 (length (bookOf b .rights)) t
+room-for b need e h = rw (right-count b) at (has-room (length (bookOf b .rights)) 512 need e h)
 
 -- ---- a new right
 
@@ -141,7 +105,7 @@ module _ (b : List ℕ) (h d s : ℕ) (mw : List ℕ) where
   unfolding rightNumber
   else-number model t e =
       let n = found-none b h d s e in
-      rw t (right-from h d s (bookOf b .rights) ∙ (let q = place-le h d s (bookOf b .rights) in let r = right-count b in omega arith))
+      rw t (right-from h d s (bookOf b .rights) ∙ (let q = place-le (isRightOf h d s) (bookOf b .rights) in let r = right-count b in omega arith))
 
   -- four-hour model, the standing right i
   module _ (i : ℕ) (e : standingIn b h d s ≡ At i) (u : length b ≡ CELLS) (size : length mw ≡ 5) where
@@ -186,16 +150,6 @@ right-row b i =
     let k3 : RIGHTS + 4 + i * 8 + 3 ≡ at + 6 = omega arith in
     let k4 : RIGHTS + 4 + i * 8 + 4 ≡ at + 7 = omega arith in
     rw (two, three, k0, k1, k2, k3, k4)
-
--- five MW, one by one
-pub five-mw : (mw : List ℕ) → length mw ≡ 5 → (getD mw 0 0 ∷ getD mw 1 0 ∷ getD mw 2 0 ∷ getD mw 3 0 ∷ getD mw 4 0 ∷ []) ≡ mw
-five-mw [] e = absurd (omega arith)
-five-mw (a ∷ []) e = absurd (omega arith)
-five-mw (a ∷ b ∷ []) e = absurd (omega arith)
-five-mw (a ∷ b ∷ c ∷ []) e = absurd (omega arith)
-five-mw (a ∷ b ∷ c ∷ d ∷ []) e = absurd (omega arith)
-five-mw (a ∷ b ∷ c ∷ d ∷ f ∷ []) e = refl
-five-mw (a ∷ b ∷ c ∷ d ∷ f ∷ g ∷ l) e = absurd (omega arith)
 
 -- models that are not the one-hour model are booked alike
 pub booked-alike : {b b′ : List ℕ} {model h d s : ℕ} {mw : List ℕ} {n : ℕ} → eqb model 1 ≡ false → Booked b 4 h d s mw n b′ → Booked b model h d s mw n b′

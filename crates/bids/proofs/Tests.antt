@@ -1,54 +1,35 @@
 -- What the tests of a bid find in cells, as the rules find it in the book.
 -- Assumes nothing.
-use Prim.Native.Nat.{ℕ, _+_, _-_, _/_, _%_, _^_, _≤_, _<_}
+use Prim.Native.Nat.{ℕ, _+_, _-_, _≤_, _<_}
 use mathlib.Core.Path.{_≡_, ap, _∙_}
 use mathlib.Core.Bool.{Bool, true, false, cond, not}
 use mathlib.Core.List.{List}
-use native.Mathlib.Nat.{le-trans, div-eq-of-lt}
 use native.Mathlib.Omega.{arith}
 use lib.Dec.{eqb, leb}
 use lib.ListN.{length, getD, List·getD-eq-default}
-use lib.Pow.{pow-mono}
-use borrow.Author.Tests.{leb-false, le-leb, lt-leb}
-use Rattle.rules.specs.Basics.{bit, noMw}
+use borrow.Author.Tests.{le-leb, lt-leb}
+use Rattle.rules.specs.Basics.{noMw}
 use Rattle.rules.specs.Sessions.{sessionThere, firstHour, hoursIn, firstHourThere}
 use Rattle.rules.specs.Bids.{shortage}
-use Rattle.rules.specs.Refusals.{order, firstOf, directionUnknown, sessionUnknown}
+use Rattle.rules.specs.Refusals.{order, firstOf, sessionUnknown}
 use Rattle.rules.specs.Reads.{rightReadRefuses, readRight}
 use Rattle.rules.specs.declared.Answer.the-variants.{Unknown}
 use Rattle.rules.proofs.Sessions.{hours-there}
 use Rattle.cells.specs.Layout.{DIRECTIONS, RIGHTS}
 use Rattle.cells.specs.View.{counted, dayHoursIn, directionAt, bookOf}
-use Rattle.cells.proofs.Views.{direction-count, model-at, hours-within, right-count, right-at}
+use Rattle.cells.proofs.Views.{hours-few, model-at, hours-within, right-count, right-at}
 use Rattle.capacity.specs.Search.{Hours, shortageIn, found}
 use Rattle.capacity.specs.declared.Search.{Search}
 use Rattle.capacity.proofs.View.{shortage-view}
 use Rattle.answers.specs.Promises.{saidRight}
 use Rattle.bids.specs.Work.{Session-known, Searched, rightIn}
 
--- a number of 32 bits has no bit past them
-pub far-bit : (map i : ℕ) → map < 2 ^ 32 → 32 ≤ i → bit map i ≡ false
-unfolding bit
-far-bit map i l h = rw (div-eq-of-lt (le-trans l (pow-mono h)))
-
 -- ---- the direction and the session
-
-pub known-direction : (b : List ℕ) (d : ℕ) → directionUnknown (bookOf b) d ≡ false → d < counted b DIRECTIONS 24
-known-direction b d e = rw (direction-count b) at (leb-false (length (bookOf b .directions)) d e)
 
 pub session-is : (b : List ℕ) (d s n m : ℕ) → n ≡ dayHoursIn b → m ≡ directionAt b d .model → d < counted b DIRECTIONS 24
     → not (sessionThere n m s) ≡ sessionUnknown (bookOf b) d s
 unfolding bookOf
 session-is b d s n m p q l = rw (p, q, model-at b d l)
-
-pub hours-few : (n model s : ℕ) → n ≤ 25 → hoursIn n model s ≤ 5
-unfolding hoursIn
-hours-few n model s h = go (eqb model 1) (leb s 1)
-  where
-    go : (t u : Bool) → cond t 1 (cond u (4 + n - 24) 4) ≤ 5
-    go true u = omega arith
-    go false true = omega arith
-    go false false = omega arith
 
 hours-some : (n model s : ℕ) → 23 ≤ n → 1 ≤ hoursIn n model s
 unfolding hoursIn

@@ -23,7 +23,7 @@ use Rattle.rules.specs.declared.Answer.the-variants.{Short}
 use Rattle.rules.proofs.Bools.{or-left, or-right}
 use Rattle.cells.specs.Layout.{DIRECTIONS, PARTIES}
 use Rattle.cells.specs.View.{cell, counted, directionAt, bookOf}
-use Rattle.cells.proofs.Views.{party-count, access-at, direction-at, model-at}
+use Rattle.cells.proofs.Views.{party-count, known-direction, access-at, direction-at, model-at}
 use Rattle.capacity.specs.Search.{found}
 use Rattle.capacity.specs.declared.Search.{Search}
 use Rattle.capacity.specs.declared.Search.the-variants.{Short as ShortIn, Enough}
@@ -32,7 +32,6 @@ use Rattle.answers.specs.declared.Verdict.{Verdict}
 use Rattle.answers.specs.declared.Verdict.the-variants.{Clear, No}
 use Rattle.answers.specs.Promises.{Judged}
 use Rattle.answers.proofs.Laws.{Left, pass, refuse, none-left}
-use Rattle.bids.proofs.Tests.{known-direction}
 use Rattle.bids.specs.Work.{Session-known, Searched}
 
 -- the numbers that can apply to a bid

@@ -39,7 +39,7 @@ fn bid_field(time: u32, mw: [u16; 5]) -> bool
 fn bid_unknown(book: &Book, party: u8, direction: u8, session: Session) -> bool
     ensures { λ r. ⌜ r ≡ (partyUnknown (bookOf (now (book .entry))) party || directionUnknown (bookOf (now (book .entry))) direction || sessionUnknown (bookOf (now (book .entry))) direction (session .0)) ⌝ }
 {
-    if cells::count_in(book, cells::PARTIES, 64) <= party as u32 {
+    if answers::party_unknown(book, party) {
         return true;
     }
     if answers::direction_unknown(book, direction) {
@@ -67,13 +67,6 @@ fn wrong_hours(book: &Book, model: u32, session: Session, mw: [u16; 5]) -> bool
     capacity::any_above(0, mw, count) || !capacity::any_above(0, mw, 0)
 }
 
-// The bit of an operator in an access map; operators past the map have none.
-fn has_access(map: u32, operator: u32) -> bool
-    ensures { λ r. ⌜ r ≡ bit map operator ⌝ }
-{
-    operator < 32 && (map >> operator) % 2 == 1
-}
-
 fn no_access(book: &Book, party: u8, direction: u8) -> bool
     requires { ⌜ (party < 64) × (direction < 24) ⌝ }
     ensures { λ r. ⌜ r ≡ not (bit (cell (now (book .entry)) (PARTIES + 17 + party * 17)) (directionAt (now (book .entry)) direction .out) || bit (cell (now (book .entry)) (PARTIES + 17 + party * 17)) (directionAt (now (book .entry)) direction .into)) ⌝ }
@@ -81,10 +74,10 @@ fn no_access(book: &Book, party: u8, direction: u8) -> bool
     let map = book[cells::PARTIES + 17 + party as usize * 17];
     let out = cells::out_of(book, direction);
     let into = cells::into_of(book, direction);
-    if has_access(map, out) {
+    if answers::has_access(map, out) {
         return false;
     }
-    !has_access(map, into)
+    !answers::has_access(map, into)
 }
 
 // ---- the standing right

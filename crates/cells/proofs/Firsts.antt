@@ -1,17 +1,17 @@
 -- The first entry of a table that passes a test: the search for it, and the table with that entry changed or else a new one added.
 -- Assumes nothing.
 use Prim.Native.Nat.{ℕ, zero, suc, _+_, _≤_, _<_}
-use mathlib.Core.Path.{_≡_, refl, ap, _∙_}
+use mathlib.Core.Path.{_≡_, refl, sym, ap, _∙_}
 use mathlib.Core.Logic.{_≢_}
-use mathlib.Core.Bool.{Bool, true, false, cond}
+use mathlib.Core.Bool.{Bool, true, false, cond, _||_}
 use mathlib.Core.List.{List, [], _∷_, _++_}
 use native.Mathlib.Omega.{arith}
 use native.Mathlib.Nat.{add-zero, zero-add}
-use borrow.Author.Tests.{lt-ltb}
+use borrow.Author.Tests.{lt-ltb, ltb-true, ltb-false}
 use lib.Dec.{ltb, leb·suc-suc}
 use lib.ListN.{getD, set, length}
 use Rattle.rules.specs.Book.{Right}
-use Rattle.rules.specs.Bids.{wrapAdded, isRightOf, addedRight, rightFrom}
+use Rattle.rules.specs.Bids.{wrapAdded, isRightOf, rightTaken, addedRight, rightFrom}
 use Rattle.cells.specs.Loops.{each, rows}
 use Rattle.cells.specs.View.{cell, counted}
 use Rattle.cells.proofs.Rows.{rows-set}
@@ -20,6 +20,29 @@ module _ {A : Type 0} (t : A → Bool) where
   unfoldable pub placeOf : List A → ℕ
   placeOf [] = 0
   placeOf (x ∷ xs) = cond (t x) 0 (suc (placeOf xs))
+
+  pub place-le : (xs : List A) → placeOf xs ≤ length xs
+  unfolding placeOf
+  place-le [] = omega arith
+  place-le (x ∷ xs) = go (t x) (place-le xs)
+    where
+      go : (s : Bool) → placeOf xs ≤ length xs → cond s 0 (suc (placeOf xs)) ≤ suc (length xs)
+      go true e = omega arith
+      go false e = omega arith
+
+  -- an entry passes the test
+  unfoldable pub someOf : List A → Bool
+  someOf [] = false
+  someOf (x ∷ xs) = t x || someOf xs
+
+  pub some-is : (xs : List A) → someOf xs ≡ ltb (placeOf xs) (length xs)
+  unfolding someOf placeOf
+  some-is [] = refl
+  some-is (x ∷ xs) = go (t x) (some-is xs)
+    where
+      go : (s : Bool) → someOf xs ≡ ltb (placeOf xs) (length xs) → (s || someOf xs) ≡ ltb (cond s 0 (suc (placeOf xs))) (suc (length xs))
+      go true e = sym (lt-ltb 0 (suc (length xs)) (omega arith))
+      go false e = e ∙ sym (leb·suc-suc (suc (placeOf xs)) (length xs))
 
   unfoldable pub changed : (A → A) → A → List A → List A
   changed g n [] = n ∷ []
@@ -49,7 +72,7 @@ module _ {A : Type 0} (t : A → Bool) where
     unfoldable pub tryRow : ℕ → F → F
     tryRow k rest = cond (t (f k)) (at k) rest
 
-    pub search-is : (n k : ℕ) → each tryRow n k none ≡ cond (ltb (placeOf (rows f n k)) n) (at (k + placeOf (rows f n k))) none
+    search-is : (n k : ℕ) → each tryRow n k none ≡ cond (ltb (placeOf (rows f n k)) n) (at (k + placeOf (rows f n k))) none
     unfolding each rows placeOf tryRow
     search-is zero k = refl
     search-is (suc n) k = go (t (f k)) (search-is n (k + 1))
@@ -61,6 +84,30 @@ module _ {A : Type 0} (t : A → Bool) where
         go false ih =
             let e : k + suc (placeOf (rows f n (k + 1))) ≡ k + 1 + placeOf (rows f n (k + 1)) = omega arith in
             ih ∙ rw (e, leb·suc-suc (suc (placeOf (rows f n (k + 1)))) n)
+
+    -- what its answer says, where the answers can be told apart
+    module _ (n : ℕ) where
+      abbrev first : ℕ
+      first = placeOf (rows f n 0)
+
+      found-is : each tryRow n 0 none ≡ cond (ltb first n) (at first) none
+      found-is = search-is n 0 ∙ rw (zero-add first)
+
+      pub search-at : (i : ℕ) → ((x : ℕ) → at x ≡ at i → x ≡ i) → none ≢ at i → each tryRow n 0 none ≡ at i → (i ≡ first) × (i < n)
+      search-at i same apart e = go (ltb first n) refl
+        where
+          go : (s : Bool) → ltb first n ≡ s → (i ≡ first) × (i < n)
+          go true s =
+              let r : first ≡ i = same first (rw s at (sym found-is ∙ e)) in
+              (sym r, rw (← r) (ltb-true first n s))
+          go false s = absurd (apart (rw s at (sym found-is ∙ e)))
+
+      pub search-none : ((x : ℕ) → at x ≢ none) → each tryRow n 0 none ≡ none → n ≤ first
+      search-none apart e = go (ltb first n) refl
+        where
+          go : (s : Bool) → ltb first n ≡ s → n ≤ first
+          go true s = absurd (apart first (rw s at (sym found-is ∙ e)))
+          go false s = ltb-false first n s
 
 -- one row of a table changed
 pub table-set : {A : Type 0} (f : List ℕ → ℕ → A) (at limit : ℕ) (b b′ : List ℕ) (i : ℕ) → cell b′ at ≡ cell b at → i < counted b at limit
@@ -74,6 +121,11 @@ pub right-from : (h d s : ℕ) (rs : List Right) → rightFrom h d s rs ≡ plac
 unfolding rightFrom placeOf
 right-from h d s [] = refl
 right-from h d s (x ∷ rs) = ap (λ (n : ℕ). cond (isRightOf h d s x) 0 (suc n)) (right-from h d s rs)
+
+pub right-taken : (h d s : ℕ) (rs : List Right) → rightTaken h d s rs ≡ someOf (isRightOf h d s) rs
+unfolding rightTaken someOf
+right-taken h d s [] = refl
+right-taken h d s (x ∷ rs) = ap (λ (p : Bool). isRightOf h d s x || p) (right-taken h d s rs)
 
 abbrev pub raised : List ℕ → Right → Right
 raised mw x = record { holder = x .holder; direction = x .direction; session = x .session; mw = wrapAdded (x .mw) mw }

@@ -8,3 +8,4 @@ pub mod Views
 pub mod Tables
 pub mod Firsts
 pub mod Raised
+pub mod Pairs

@@ -43,6 +43,16 @@ part-set b at n i v l u =
     rows-set (cellFrom b at) (cellFrom (set b (at + i) v) at) n 0 i l (λ j e. getD-set-other b (at + i) (at + j) v 0 (λ q. e (omega arith)))
     ∙ ap (λ (x : ℕ). set (rows (cellFrom b at) n 0) i x) (rw (zero-add i) (getD-set-same b (at + i) v 0 u))
 
+-- five MW, one by one
+pub five-mw : (mw : List ℕ) → length mw ≡ 5 → (getD mw 0 0 ∷ getD mw 1 0 ∷ getD mw 2 0 ∷ getD mw 3 0 ∷ getD mw 4 0 ∷ []) ≡ mw
+five-mw [] e = absurd (omega arith)
+five-mw (a ∷ []) e = absurd (omega arith)
+five-mw (a ∷ b ∷ []) e = absurd (omega arith)
+five-mw (a ∷ b ∷ c ∷ []) e = absurd (omega arith)
+five-mw (a ∷ b ∷ c ∷ d ∷ []) e = absurd (omega arith)
+five-mw (a ∷ b ∷ c ∷ d ∷ f ∷ []) e = refl
+five-mw (a ∷ b ∷ c ∷ d ∷ f ∷ g ∷ l) e = absurd (omega arith)
+
 -- ---- the tables
 
 pub offered-set : (b : List ℕ) (i v : ℕ) → i < 800 → length b ≡ CELLS → bookOf (set b (OFFERED + i) v) ≡ withOffered (bookOf b) (set (bookOf b .offered) i v)

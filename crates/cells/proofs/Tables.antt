@@ -32,13 +32,13 @@ sets-done b at k row l = rw (drop-of-length-le row {i = k} l)
 
 -- ---- the cells of a row
 
-sets-other : (row b : List ℕ) (at x : ℕ) → ((k : ℕ) → k < length row → x ≢ at + k) → cell (sets b at row) x ≡ cell b x
+pub sets-other : (row b : List ℕ) (at x : ℕ) → ((k : ℕ) → k < length row → x ≢ at + k) → cell (sets b at row) x ≡ cell b x
 sets-other [] b at x e = refl
 sets-other (v ∷ row) b at x e =
     sets-other row (set b at v) (suc at) x (λ k l q. e (suc k) (omega arith) (omega arith))
     ∙ getD-set-other b at x v 0 (λ q. e 0 (omega arith) (omega arith))
 
-sets-at : (row b : List ℕ) (at k : ℕ) → k < length row → at + length row ≤ length b → cell (sets b at row) (at + k) ≡ getD row k 0
+pub sets-at : (row b : List ℕ) (at k : ℕ) → k < length row → at + length row ≤ length b → cell (sets b at row) (at + k) ≡ getD row k 0
 sets-at [] b at k l u = absurd (omega arith)
 sets-at (v ∷ row) b at zero l u =
     rw (add-zero at) (sets-other row (set b at v) (suc at) at (λ k p q. omega arith) ∙ getD-set-same b at v 0 (omega arith))
@@ -118,7 +118,7 @@ profile-own c c′ i h =
     rw e at (h 0 (omega arith))
 
 -- a part of a row
-part-own : (c c′ : List ℕ) (at w s n : ℕ) → s + n ≤ w → ((k : ℕ) → k < w → cell c′ (at + k) ≡ cell c (at + k)) → part c′ (at + s) n ≡ part c (at + s) n
+pub part-own : (c c′ : List ℕ) (at w s n : ℕ) → s + n ≤ w → ((k : ℕ) → k < w → cell c′ (at + k) ≡ cell c (at + k)) → part c′ (at + s) n ≡ part c (at + s) n
 part-own c c′ at w s n u h = part-agree c c′ (at + s) n (λ j p q. moved j p q)
   where
     moved : (j : ℕ) → at + s ≤ j → j < at + s + n → cell c′ j ≡ cell c j
@@ -141,7 +141,7 @@ right-own c c′ i h =
     rw (rw add-zero at (h 0 (omega arith)), rw two at (h 1 (omega arith)), rw three at (h 2 (omega arith)), rw four at (part-own c c′ (RIGHTS + 1 + i * 8) 8 3 5 (omega arith) h))
 
 -- n cells of a row that was written
-part-written : (b : List ℕ) (at s n : ℕ) (row : List ℕ) → length row ≡ n → ((k : ℕ) → k < n → cell b (at + (s + k)) ≡ getD row k 0) → part b (at + s) n ≡ row
+pub part-written : (b : List ℕ) (at s n : ℕ) (row : List ℕ) → length row ≡ n → ((k : ℕ) → k < n → cell b (at + (s + k)) ≡ getD row k 0) → part b (at + s) n ≡ row
 part-written b at s n row size h =
     ext-getD 0 (part b (at + s) n) row (part-length b (at + s) n ∙ sym size)
     (λ k m.

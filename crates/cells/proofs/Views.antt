@@ -2,15 +2,16 @@
 -- Assumes nothing.
 use Prim.Native.Nat.{ℕ, _+_, _*_, _-_, _≤_, _<_}
 use mathlib.Core.Path.{_≡_, refl, ap, _∙_}
-use mathlib.Core.Bool.{Bool, true, false, cond, _||_}
+use mathlib.Core.Bool.{Bool, true, false, cond, _||_, _&&_, true≢false}
 use mathlib.Core.List.{List, []}
 use native.Mathlib.Omega.{arith}
 use native.Mathlib.Nat.{zero-add}
 use lib.Dec.{eqb, leb, ltb, lit≤}
 use borrow.Author.Tests.{leb-false, ltb-false}
 use lib.ListN.{length, getD, List·getD-eq-default}
-use Rattle.rules.specs.Book.{Direction, Party, place, direction, party, right, leftAt, modelOf}
-use Rattle.rules.specs.Refusals.{hourUnknown}
+use Rattle.rules.specs.Sessions.{hoursIn}
+use Rattle.rules.specs.Book.{Direction, Party, Pair, place, direction, party, right, leftAt, modelOf}
+use Rattle.rules.specs.Refusals.{directionUnknown, hourUnknown}
 use Rattle.cells.specs.Layout.{DIRECTIONS, PROFILES, PARTIES, OFFERED, GRANTED, MATCHED, RIGHTS, PAIRS}
 use Rattle.cells.specs.View.{cell, part, counted, dayHoursIn, directionAt, directionsIn, profilesIn, partyAt, partiesIn, offeredIn, grantedIn, matchedIn, rightAt, rightsIn, pairAt, pairsIn, bookOf}
 use Rattle.rules.proofs.Bools.{or-left, or-right}
@@ -44,6 +45,19 @@ hours-within b = go (eqb (cell b 0) 23) (eqb (cell b 0) 25)
     go true u = (lit≤ tt, lit≤ tt)
     go false true = (lit≤ tt, lit≤ tt)
     go false false = (lit≤ tt, lit≤ tt)
+
+-- a session has at most five hours
+pub hours-few : (n model s : ℕ) → n ≤ 25 → hoursIn n model s ≤ 5
+unfolding hoursIn
+hours-few n model s h = go (eqb model 1) (leb s 1)
+  where
+    go : (t u : Bool) → cond t 1 (cond u (4 + n - 24) 4) ≤ 5
+    go true u = omega arith
+    go false true = omega arith
+    go false false = omega arith
+
+pub known-direction : (b : List ℕ) (d : ℕ) → directionUnknown (bookOf b) d ≡ false → d < counted b DIRECTIONS 24
+known-direction b d e = rw (direction-count b) at (leb-false (length (bookOf b .directions)) d e)
 
 -- a direction and an hour that are there
 pub record Known (b : List ℕ) (d hour : ℕ) : Type 0 where
@@ -117,11 +131,23 @@ pub right-at : (b : List ℕ) (r : ℕ) → r < counted b RIGHTS 512 → right (
 unfolding bookOf rightsIn
 right-at b r l = rows-at (rightAt b) (counted b RIGHTS 512) 0 r _ l ∙ ap (rightAt b) (zero-add r)
 
+-- a table that is not full where an entry is needed
+pub has-room : (n limit : ℕ) (need : Bool) → (leb limit n && need) ≡ false → need ≡ true → n < limit
+has-room n limit need e h = go (leb limit n) refl
+  where
+    go : (t : Bool) → leb limit n ≡ t → n < limit
+    go true t = absurd (true≢false (rw (t, h) at e))
+    go false t = leb-false limit n t
+
 -- ---- pairs and matched sessions
 
 pub pair-count : (b : List ℕ) → length (bookOf b .pairs) ≡ counted b PAIRS 512
 unfolding bookOf pairsIn
 pair-count b = rows-length (pairAt b) (counted b PAIRS 512) 0
+
+pub pair-at : (b : List ℕ) (i : ℕ) (z : Pair) → i < counted b PAIRS 512 → getD (bookOf b .pairs) i z ≡ pairAt b i
+unfolding bookOf pairsIn
+pair-at b i z l = rows-at (pairAt b) (counted b PAIRS 512) 0 i z l ∙ ap (pairAt b) (zero-add i)
 
 pub matched-at : (b : List ℕ) (i : ℕ) → i < 600 → getD (bookOf b .matched) i 0 ≡ cell b (MATCHED + i)
 unfolding bookOf matchedIn

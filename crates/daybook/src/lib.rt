@@ -1,7 +1,7 @@
 // The public calls of a day book. The book is a lent array of cells; no call has a `requires`, whatever the cells hold.
 ghost use mathlib.Core.Path.{_≡_};
 ghost use Rattle.rules.specs.Said.{said, saidNumbers};
-ghost use Rattle.rules.specs.Calls.{AddDirection, AddProfile, AddParty, OfferDirection, OfferProfile, Bid, Match};
+ghost use Rattle.rules.specs.Calls.{AddDirection, AddProfile, AddParty, OfferDirection, OfferProfile, Bid, Nominate, Match};
 ghost use Rattle.answers.specs.Promises.{Opens, Answers, ReadsDirection, ReadsProfile, ReadsRight};
 use answers::LeftRead;
 use answers::RightRead;
@@ -73,7 +73,22 @@ pub fn bid(
     bids::bid(book, time, party, direction, session, mw)
 }
 
-// ---- matching
+// ---- nominations and matching
+
+// Five MW of one side of a pair; on side 0 the sender is the out party. Granted: where the side's total is above the right.
+pub fn nominate(
+    book: &mut Book,
+    time: u32,
+    sender: u8,
+    other: u8,
+    right: u16,
+    side: u8,
+    mw: [u16; 5],
+) -> Answer
+    ensures { λ r. ⌜ Answers (now (book .entry)) (Nominate time sender other right side mw) r (now (book .exit)) ⌝ }
+{
+    nominations::nominate(book, time, sender, other, right, side, mw)
+}
 
 // A direction's session, once. Granted: the count of its rights.
 pub fn match_session(book: &mut Book, time: u32, direction: u8, session: Session) -> Answer

@@ -42,7 +42,7 @@ pub fn answer_record(book: &mut Book, call: CallRecord) -> Answer
         1 => daybook::offer_direction(book, time, call.direction, call.hour, mw[0]),
         2 => daybook::offer_profile(book, time, call.profile, call.hour, mw[0]),
         3 => daybook::bid(book, time, call.party, call.direction, call.session, mw),
-        4 => Answer::Record,
+        4 => daybook::nominate(book, time, call.party, call.other, call.right, call.side, mw),
         5 => daybook::match_session(book, time, call.direction, call.session),
         _ => Answer::Record,
     }

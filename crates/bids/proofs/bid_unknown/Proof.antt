@@ -1,19 +1,18 @@
 -- `bids::bid_unknown` meets its contract.
 -- Assumes nothing.
-use borrow.Author.Tests.{le-leb, lt-leb}
 use native.Mathlib.Omega.{arith}
-use Rattle.cells.proofs.Views.{party-count}
+use Rattle.cells.proofs.Views.{known-direction}
 use Rattle.answers.proofs.Laws.{told}
-use Rattle.bids.proofs.Tests.{known-direction, session-is}
+use Rattle.bids.proofs.Tests.{session-is}
 use borrow.Author.Needs.{needs}
 use Rattle.bids.proofs.bid_unknown.Statement.{statement}
 use Rattle.bids.proofs.bid_unknown.Tie as tie
 
 returns : tie.Need-returns
-returns c = rw (party-count _, ← c .before .count-in .ensures, le-leb _ _ (c .if1 .taken))
+returns c = rw (← c .before .party-unknown .ensures, c .if1 .taken)
 
 returns-2 : tie.Need-returns-2
-returns-2 c = rw (party-count _, ← c .before .before .before .count-in .ensures, lt-leb _ _ (c .before .before .if1 .left), ← c .before .direction-unknown .ensures, c .if2 .taken)
+returns-2 c = rw (← c .before .before .before .party-unknown .ensures, c .before .before .if1 .left, ← c .before .direction-unknown .ensures, c .if2 .taken)
 
 model-of-requires : tie.Need-model-of-requires
 model-of-requires c κs =
@@ -24,7 +23,7 @@ returns-3 : tie.Need-returns-3
 returns-3 c =
     let u = c .before .before .before in
     let l = known-direction _ _ (told (u .before .direction-unknown .ensures) (u .if2 .left)) in
-    rw (party-count _, ← u .before .before .before .count-in .ensures, lt-leb _ _ (u .before .before .if1 .left), ← u .before .direction-unknown .ensures, u .if2 .left, c .session-there .ensures)
+    rw (← u .before .before .before .party-unknown .ensures, u .before .before .if1 .left, ← u .before .direction-unknown .ensures, u .if2 .left, c .session-there .ensures)
     (session-is _ _ _ _ _ (c .before .before .hours .ensures) (c .before .model-of .ensures) l)
 
 pub bid-unknown-spec : {M : Type 1} → statement M

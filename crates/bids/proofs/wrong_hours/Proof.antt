@@ -1,8 +1,7 @@
 -- `bids::wrong_hours` meets its contract.
 -- Assumes nothing.
 use Rattle.cells.specs.View.{bookOf}
-use Rattle.cells.proofs.Views.{hours-within}
-use Rattle.bids.proofs.Tests.{hours-few}
+use Rattle.cells.proofs.Views.{hours-few, hours-within}
 use borrow.Author.Needs.{needs}
 use Rattle.bids.proofs.wrong_hours.Statement.{statement}
 use Rattle.bids.proofs.wrong_hours.Tie as tie

@@ -3,7 +3,7 @@
 use mathlib.Core.Path.{refl}
 use native.Mathlib.Omega.{arith}
 use borrow.Author.Needs.{needs}
-use Rattle.stream.proofs.Made.{answered, unanswered, made-1, made-2, made-3, made-5}
+use Rattle.stream.proofs.Made.{answered, unanswered, made-1, made-2, made-3, made-4, made-5}
 use Rattle.stream.proofs.answer_record.Statement.{statement}
 use Rattle.stream.proofs.answer_record.Tie as tie
 
@@ -17,7 +17,7 @@ returns-3 : tie.Need-returns-3
 returns-3 c = answered 3 (omega arith) refl (made-3 _ (omega arith)) (c .bid .ensures)
 
 returns-4 : tie.Need-returns-4
-returns-4 c = ?
+returns-4 c = answered 4 (omega arith) refl (made-4 _ (omega arith)) (c .nominate .ensures)
 
 returns-5 : tie.Need-returns-5
 returns-5 c = answered 5 (omega arith) refl (made-5 _ (omega arith)) (c .match-session .ensures)
@@ -33,6 +33,7 @@ answer-record-spec =
     (λ c. search needs)
     (λ c κs. search needs)
     (λ c. search needs)
+    (λ c κs. search needs)
     (λ c κs. search needs)
     (λ c κs. search needs)
     (λ c κs. search needs)

@@ -1,0 +1,14 @@
+-- `nominations::out_party` meets its contract.
+-- Assumes nothing.
+use Rattle.nominations.proofs.Tests.{party-first, party-second}
+use Rattle.nominations.proofs.out_party.Statement.{statement}
+use Rattle.nominations.proofs.out_party.Tie as tie
+
+returns : tie.Need-returns
+returns c = party-first _ _ _ (c .if1 .taken)
+
+returns-2 : tie.Need-returns-2
+returns-2 c = party-second _ _ _ (c .if1 .left)
+
+pub out-party-spec : {M : Type 1} → statement M
+out-party-spec = tie.close (tie.spec returns returns-2)

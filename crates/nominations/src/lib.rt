@@ -1,0 +1,283 @@
+// Nominations. A nomination is checked whole before anything is stored.
+ghost use mathlib.Core.Path.{_≡_};
+ghost use mathlib.Core.Bool.{true, false, _||_, _&&_, not};
+ghost use Prim.Native.Nat.{_+_, _*_, _<_, _≤_};
+ghost use lib.Dec.{leb, ltb, eqb};
+ghost use lib.ListN.{length};
+ghost use lib.Seq.{sets};
+ghost use Rattle.rules.specs.Basics.{bit, anyAbove};
+ghost use Rattle.rules.specs.Windows.{latest, nominationOutside};
+ghost use Rattle.rules.specs.Book.{party, modelOf};
+ghost use Rattle.rules.specs.Calls.{Nominate};
+ghost use Rattle.rules.specs.Nominations.{outOf, intoOf, pairTaken};
+ghost use Rattle.rules.specs.Refusals.{partyUnknown, rightUnknown, hoursLacking, number};
+ghost use Rattle.cells.specs.Layout.{PARTIES, RIGHTS, PAIRS};
+ghost use Rattle.cells.specs.View.{bookOf, counted};
+ghost use Rattle.answers.specs.Promises.{Judged, Answers};
+ghost use Rattle.nominations.specs.Work.{holderOf, directionOf, sessionOf, operatorOf, Opened, Seated, Placed};
+use answers::Verdict;
+use cells::Book;
+use pairs::Found;
+use rules::Answer;
+use rules::Session;
+
+// ---- the parties of a nomination
+
+fn out_party(sender: u8, other: u8, side: u8) -> u32
+    ensures { λ r. ⌜ r ≡ outOf sender other side ⌝ }
+{
+    if side == 0 {
+        return sender as u32;
+    }
+    other as u32
+}
+
+fn in_party(sender: u8, other: u8, side: u8) -> u32
+    ensures { λ r. ⌜ r ≡ intoOf sender other side ⌝ }
+{
+    if side == 0 {
+        return other as u32;
+    }
+    sender as u32
+}
+
+// ---- the direction of a right: it may be none that is there, and is then read as zeros
+
+fn model_there(book: &Book, direction: u8) -> u32
+    ensures { λ r. ⌜ r ≡ modelOf (bookOf (now (book .entry))) direction ⌝ }
+{
+    if answers::direction_unknown(book, direction) {
+        return 0;
+    }
+    cells::model_of(book, direction)
+}
+
+// The operator of a side.
+fn operator_there(book: &Book, direction: u8, side: u8) -> u32
+    ensures { λ r. ⌜ r ≡ operatorOf (bookOf (now (book .entry))) direction side ⌝ }
+{
+    if answers::direction_unknown(book, direction) {
+        return 0;
+    }
+    if side != 0 {
+        return cells::into_of(book, direction);
+    }
+    cells::out_of(book, direction)
+}
+
+fn right_model(book: &Book, right: u16) -> u32
+    requires { ⌜ right < counted (now book) RIGHTS 512 ⌝ }
+    ensures { λ r. ⌜ r ≡ modelOf (bookOf (now (book .entry))) (directionOf (bookOf (now (book .entry))) right) ⌝ }
+{
+    let direction = cells::right_direction(book, right);
+    model_there(book, direction)
+}
+
+// ---- tests
+
+// The time, the side or a MW is out of range.
+fn nomination_field(time: u32, side: u8, mw: [u16; 5]) -> bool
+    ensures { λ r. ⌜ r ≡ (ltb latest time || ltb 1 side || anyAbove 9999 mw) ⌝ }
+{
+    if time > 2999 {
+        return true;
+    }
+    side > 1 || capacity::any_above(9999, mw, 0)
+}
+
+fn nomination_unknown(book: &Book, sender: u8, other: u8, right: u16) -> bool
+    ensures { λ r. ⌜ r ≡ (partyUnknown (bookOf (now (book .entry))) sender || partyUnknown (bookOf (now (book .entry))) other || rightUnknown (bookOf (now (book .entry))) right) ⌝ }
+{
+    if answers::party_unknown(book, sender) {
+        return true;
+    }
+    if answers::party_unknown(book, other) {
+        return true;
+    }
+    cells::count_in(book, cells::RIGHTS, 512) <= right as u32
+}
+
+// Outside the window of the right's session.
+fn outside(book: &Book, right: u16, time: u32) -> bool
+    requires { ⌜ right < counted (now book) RIGHTS 512 ⌝ }
+    ensures { λ r. ⌜ r ≡ nominationOutside (bookOf (now (book .entry)) .hours) (bookOf (now (book .entry)) .weekday) (modelOf (bookOf (now (book .entry))) (directionOf (bookOf (now (book .entry))) right)) (sessionOf (bookOf (now (book .entry))) right) time ⌝ }
+{
+    let hours = cells::hours(book);
+    let weekday = cells::weekday(book);
+    let model = right_model(book, right);
+    let session = cells::right_session(book, right);
+    day::nomination_outside(hours, weekday, model, Session(session), time)
+}
+
+// MW for an hour that the right's session lacks.
+fn lacking_hours(book: &Book, right: u16, mw: [u16; 5]) -> bool
+    requires { ⌜ right < counted (now book) RIGHTS 512 ⌝ }
+    ensures { λ r. ⌜ r ≡ hoursLacking (bookOf (now (book .entry))) (directionOf (bookOf (now (book .entry))) right) (sessionOf (bookOf (now (book .entry))) right) mw ⌝ }
+{
+    let hours = cells::hours(book);
+    let model = right_model(book, right);
+    let session = cells::right_session(book, right);
+    let count = day::hours_in(hours, model, Session(session));
+    capacity::any_above(0, mw, count)
+}
+
+// The sender lacks access to the operator of its side.
+fn no_access(book: &Book, sender: u8, right: u16, side: u8) -> bool
+    requires { ⌜ (sender < counted (now book) PARTIES 64) × (right < counted (now book) RIGHTS 512) ⌝ }
+    ensures { λ r. ⌜ r ≡ not (bit (party (bookOf (now (book .entry)) .parties) sender .access) (operatorOf (bookOf (now (book .entry))) (directionOf (bookOf (now (book .entry))) right) side)) ⌝ }
+{
+    let map = book[cells::PARTIES + 17 + sender as usize * 17];
+    let direction = cells::right_direction(book, right);
+    let operator = operator_there(book, direction, side);
+    !answers::has_access(map, operator)
+}
+
+// Neither party holds the right.
+fn not_owner(book: &Book, sender: u8, other: u8, right: u16) -> bool
+    requires { ⌜ right < counted (now book) RIGHTS 512 ⌝ }
+    ensures { λ r. ⌜ r ≡ not (eqb (holderOf (bookOf (now (book .entry))) right) sender || eqb (holderOf (bookOf (now (book .entry))) right) other) ⌝ }
+{
+    let holder = cells::right_holder(book, right);
+    if holder == sender {
+        return false;
+    }
+    holder != other
+}
+
+// A new pair is needed, and the table is full.
+fn pairs_full(book: &Book, right: u32, out: u32, into: u32) -> bool
+    ensures { λ r. ⌜ r ≡ (leb 512 (length (bookOf (now (book .entry)) .pairs)) && not (pairTaken right out into (bookOf (now (book .entry)) .pairs))) ⌝ }
+{
+    if cells::count_in(book, cells::PAIRS, 512) < 512 {
+        return false;
+    }
+    let Found::At(_) = pairs::standing_pair(book, right, out, into) else {
+        return true;
+    };
+    false
+}
+
+// ---- the verdict
+
+fn nomination_verdict(
+    book: &Book,
+    time: u32,
+    sender: u8,
+    other: u8,
+    right: u16,
+    side: u8,
+    mw: [u16; 5],
+) -> Verdict
+    ensures { λ r. ⌜ Judged (bookOf (now (book .entry))) (Nominate time sender other right side mw) r ⌝ }
+{
+    if nomination_field(time, side, mw) {
+        return Verdict::No(Answer::Field);
+    }
+    if answers::is_early(book, time) {
+        return Verdict::No(Answer::Clock);
+    }
+    if nomination_unknown(book, sender, other, right) {
+        return Verdict::No(Answer::Unknown);
+    }
+    if outside(book, right, time) {
+        return Verdict::No(Answer::Gate);
+    }
+    if lacking_hours(book, right, mw) {
+        return Verdict::No(Answer::Hours);
+    }
+    if no_access(book, sender, right, side) {
+        return Verdict::No(Answer::Access);
+    }
+    if not_owner(book, sender, other, right) {
+        return Verdict::No(Answer::Owner);
+    }
+    let out = out_party(sender, other, side);
+    let into = in_party(sender, other, side);
+    if pairs_full(book, right as u32, out, into) {
+        return Verdict::No(Answer::Full);
+    }
+    Verdict::Clear
+}
+
+// ---- a granted nomination
+
+// A new pair with no MW: its number.
+fn open_pair(book: &mut Book, right: u32, out: u32, into: u32) -> u32
+    requires { ⌜ counted (now book) PAIRS 512 < 512 ⌝ }
+    ensures { λ r. ⌜ Opened (now (book .entry)) right out into r (now (book .exit)) ⌝ }
+{
+    let cells = cells::cells_in(book);
+    let count = cells::count_in(book, cells::PAIRS, 512);
+    let row = [right, out, into, 0, 0, 0, 0, 0, 0, 0, 0, 0, 0];
+    cells::add_row(book, cells::PAIRS, count, &row);
+    count
+}
+
+// The number of the pair of a right and two parties, which is opened where there is none.
+fn seat_pair(book: &mut Book, right: u32, out: u32, into: u32) -> u32
+    requires { ⌜ (leb 512 (length (bookOf (now book) .pairs)) && not (pairTaken right out into (bookOf (now book) .pairs))) ≡ false ⌝ }
+    ensures { λ r. ⌜ Seated (now (book .entry)) right out into r (now (book .exit)) ⌝ }
+{
+    let cells = cells::cells_in(book);
+    let Found::At(pair) = pairs::standing_pair(book, right, out, into) else {
+        return open_pair(book, right, out, into);
+    };
+    pair
+}
+
+// The five MW of one side of a pair.
+fn write_side(book: &mut Book, pair: u32, side: u8, mw: [u16; 5])
+    requires { ⌜ (pair < 512) × (side ≤ 1) ⌝ }
+    ensures { λ r. ⌜ now (book .exit) ≡ sets (now (book .entry)) (PAIRS + 4 + pair * 13 + 5 * side) mw ⌝ }
+{
+    let five = [
+        mw[0] as u32,
+        mw[1] as u32,
+        mw[2] as u32,
+        mw[3] as u32,
+        mw[4] as u32,
+    ];
+    let at = pairs::side_at(pair, side);
+    cells::write_cells(book, at, &five);
+}
+
+// The stores of a granted nomination: its marks, after it took its place.
+fn place_nomination(
+    book: &mut Book,
+    time: u32,
+    sender: u8,
+    other: u8,
+    right: u16,
+    side: u8,
+    mw: [u16; 5],
+) -> u32
+    requires { ⌜ number (bookOf (now book)) (Nominate time sender other right side mw) ≡ 0 ⌝ }
+    ensures { λ r. ⌜ Placed (now (book .entry)) time sender other right side mw r (now (book .exit)) ⌝ }
+{
+    let out = out_party(sender, other, side);
+    let into = in_party(sender, other, side);
+    let pair = seat_pair(book, right as u32, out, into);
+    write_side(book, pair, side, mw);
+    cells::set_clock(book, time);
+    marks::marks(book, right, side)
+}
+
+pub fn nominate(
+    book: &mut Book,
+    time: u32,
+    sender: u8,
+    other: u8,
+    right: u16,
+    side: u8,
+    mw: [u16; 5],
+) -> Answer
+    ensures { λ r. ⌜ Answers (now (book .entry)) (Nominate time sender other right side mw) r (now (book .exit)) ⌝ }
+{
+    let verdict = nomination_verdict(book, time, sender, other, right, side, mw);
+    match verdict {
+        Verdict::No(answer) => answer,
+        Verdict::Clear => {
+            Answer::Granted(place_nomination(book, time, sender, other, right, side, mw))
+        }
+    }
+}

@@ -1,0 +1,51 @@
+-- `pairs::standing_pair` meets its contract.
+-- Assumes nothing.
+use mathlib.Core.Path.{_≡_, sym, _∙_}
+use Prim.Native.Nat.{_≤_, _-_}
+use native.Mathlib.Omega.{arith}
+use borrow.Author.Needs.{needs}
+use Rattle.cells.specs.Loops.{each}
+use Rattle.cells.proofs.Turns.{each-start, each-next, each-done, told-true, told-false}
+use Rattle.pairs.specs.declared.Found.the-variants.{Nothing}
+use Rattle.pairs.specs.Search.{standingIn, tryPair}
+use Rattle.pairs.proofs.standing_pair.Statement.{statement}
+use Rattle.pairs.proofs.standing_pair.Tie as tie
+
+abbrev Inv-loop : tie.InvT-loop
+Inv-loop book right out into count i₀ i =
+    ((i ≤ count) × (count ≤ 512)) × (standingIn book right out into ≡ each (tryPair book right out into) (count - i) i Nothing)
+
+abbrev μ-loop : tie.MeasureT-loop
+μ-loop book right out into count i₀ i = count - i
+
+loop-holds : tie.Need-loop-holds Inv-loop μ-loop
+unfolding standingIn
+loop-holds c = (omega (arith, c .count-in .ensures), rw (c .count-in .ensures) (each-start _ _ _))
+
+returns : tie.Need-returns Inv-loop μ-loop
+unfolding tryPair
+returns c =
+    sym (c .before .before .before .loop .inv .1 ∙ each-next _ _ _ _ (c .before .before .loop-test .taken) ∙ told-true _ _ (c .before .same-pair .ensures) (c .if1 .taken))
+
+loop-again : tie.Need-loop-again Inv-loop μ-loop
+unfolding tryPair
+loop-again c =
+    (search needs, c .before .before .before .loop .inv .1 ∙ each-next _ _ _ _ (c .before .before .loop-test .taken) ∙ told-false _ _ (c .before .same-pair .ensures) (c .if1 .left))
+
+returns-2 : tie.Need-returns-2 Inv-loop μ-loop
+returns-2 c = sym (c .before .loop .inv .1 ∙ each-done _ _ _ _ (c .loop-test .left))
+
+pub standing-pair-spec : {M : Type 1} → statement M
+standing-pair-spec =
+    tie.close
+    (tie.spec
+    Inv-loop
+    μ-loop
+    (λ c κs. search needs)
+    loop-holds
+    (λ c κs. search needs)
+    returns
+    (λ c. search needs)
+    (λ c. search needs)
+    loop-again
+    returns-2)
