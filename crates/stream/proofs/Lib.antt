@@ -2,3 +2,4 @@ pub mod Made
 pub mod Taking
 pub mod Front
 pub mod Printing
+pub mod Fronts

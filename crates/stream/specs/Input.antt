@@ -1,6 +1,6 @@
 -- What the program prints for the whole of its input, however the input comes in parts.
 -- Assumes nothing.
-use Prim.Native.Nat.{ℕ, zero, suc, _+_, _≤_}
+use Prim.Native.Nat.{ℕ, zero, suc, _+_, _-_, _≤_}
 use mathlib.Core.Path.{_≡_}
 use mathlib.Core.Bool.{true, false, cond}
 use mathlib.Core.List.{List, [], _∷_, _++_}
@@ -20,6 +20,12 @@ longest = 24
 -- a record is read alike from bytes that are as many, whatever follows them
 abbrev pub ReadsFront : Type 0
 ReadsFront = (bytes rest : List ℕ) → longest ≤ length bytes → reading (bytes ++ rest) ≡ reading bytes
+
+-- the bytes from one position up to another are at the front of the buffer; r is how many they are
+pub record Fronted (before : List ℕ) (from to r : ℕ) (after : List ℕ) : Type 0 where
+  pub count : r ≡ to - from
+  pub front : take r after ≡ take r (drop from before)
+  pub size : length after ≡ length before
 
 -- the lines from a position on, for a book and what is left of the input; n bounds how many there are
 unfoldable pub printed : ℕ → Book → ℕ → List ℕ → List ℕ

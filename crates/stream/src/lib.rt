@@ -1,9 +1,10 @@
 // Call records on a book: the call of a record, the record at the front of bytes, and its line.
 ghost use mathlib.Core.Path.{_≡_};
-ghost use Prim.Native.Nat.{_+_, _-_, _<_, _≤_};
-ghost use lib.ListN.{length, take, drop};
+ghost use Prim.Native.Nat.{_-_, _<_, _≤_};
+ghost use lib.ListN.{length};
 ghost use Rattle.cells.specs.View.{bookOf};
 ghost use Rattle.stream.specs.Records.{startBook, AnswersRecord, Takes, Turns};
+ghost use Rattle.stream.specs.Input.{Fronted};
 use cells::Book;
 use lines::Line;
 use rules::Answer;
@@ -42,7 +43,15 @@ pub fn answer_record(book: &mut Book, call: CallRecord) -> Answer
         1 => daybook::offer_direction(book, time, call.direction, call.hour, mw[0]),
         2 => daybook::offer_profile(book, time, call.profile, call.hour, mw[0]),
         3 => daybook::bid(book, time, call.party, call.direction, call.session, mw),
-        4 => daybook::nominate(book, time, call.party, call.other, call.right, call.side, mw),
+        4 => daybook::nominate(
+            book,
+            time,
+            call.party,
+            call.other,
+            call.right,
+            call.side,
+            mw,
+        ),
         5 => daybook::match_session(book, time, call.direction, call.session),
         _ => Answer::Record,
     }
@@ -71,4 +80,14 @@ pub fn answer_next(book: &mut Book, position: u64, bytes: &[u8], line: &mut Line
         written: lines::write_line(position, reply, line),
         ends: reply.number == 1,
     }
+}
+
+// Moves the bytes from a position up to another to the front of the buffer: how many they are.
+pub fn to_front(buffer: &mut [u8], from: usize, to: usize) -> usize
+    requires { ⌜ (from ≤ to) × ((to ≤ length (now buffer)) × (to - from < 24)) ⌝ }
+    ensures { λ r. ⌜ Fronted (now (buffer .entry)) from to r (now (buffer .exit)) ⌝ }
+{
+    let mut rest = [0u8; 24];
+    let count = bytes::copy(&buffer[from..to], &mut rest);
+    bytes::copy(&rest[..count], buffer)
 }
