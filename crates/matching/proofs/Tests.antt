@@ -6,8 +6,7 @@ use mathlib.Core.Bool.{Bool, true, false, cond, _||_, _&&_, not}
 use mathlib.Core.List.{List, [], _∷_}
 use native.Mathlib.Omega.{arith}
 use lib.Dec.{leb, ltb, eqb}
-use lib.ListN.{length}
-use borrow.Author.Tests.{leb-false, leb-true, ltb-true, not-false}
+use borrow.Author.Tests.{leb-true, ltb-true, not-false}
 use Rattle.rules.specs.Sessions.{sessionThere}
 use Rattle.rules.specs.Book.{Book, modelOf}
 use Rattle.rules.specs.Calls.{Match}
@@ -15,7 +14,7 @@ use Rattle.rules.specs.Refusals.{order, firstOf, setupShut, taken, wrongHours, 
 use Rattle.rules.proofs.Bools.{or-left, or-right, and-left, and-right}
 use Rattle.cells.specs.Layout.{DIRECTIONS}
 use Rattle.cells.specs.View.{counted, dayHoursIn, directionAt, bookOf}
-use Rattle.cells.proofs.Views.{direction-count, model-at, hours-within}
+use Rattle.cells.proofs.Views.{known-direction, model-at, hours-within}
 use Rattle.answers.proofs.Laws.{Left}
 
 -- the numbers that can apply to a matching
@@ -24,9 +23,6 @@ unfolding firstOf order refuses setupShut taken wrongHours noAccess notOwner ful
 match-left b t d s = record { number-is = refl }
 
 -- ---- the direction and the session
-
-pub known-direction : (b : List ℕ) (d : ℕ) → directionUnknown (bookOf b) d ≡ false → d < counted b DIRECTIONS 24
-known-direction b d e = rw (direction-count b) at (leb-false (length (bookOf b .directions)) d e)
 
 pub session-is : (b : List ℕ) (d s n m : ℕ) → n ≡ dayHoursIn b → m ≡ directionAt b d .model → d < counted b DIRECTIONS 24
     → not (sessionThere n m s) ≡ sessionUnknown (bookOf b) d s

@@ -116,7 +116,7 @@ fields-written k map s t (w ∷ ws) (v ∷ vs) i at n l f b e =
     counted true = rw (bytes-length w v) (omega arith)
     counted false = omega arith
 
-end-after : (ws : List ℕ) (i map at : ℕ) → at ≤ endAt ws i map at
+pub end-after : (ws : List ℕ) (i map at : ℕ) → at ≤ endAt ws i map at
 unfolding endAt
 end-after [] i map at = omega arith
 end-after (w ∷ ws) i map at = omega (arith, end-after ws (suc i) map (at + taking w (bit map i)))
@@ -191,7 +191,7 @@ not-refused : (t : Bool) → _≡_ {A = ℕ} (cond t 1 0) 0 → t ≡ false
 not-refused false e = refl
 not-refused true e = absurd (omega arith)
 
-reader-accepts : (s : List ℕ) → reading s .number ≡ 0 → readerRefuses s 1 ≡ false
+pub reader-accepts : (s : List ℕ) → reading s .number ≡ 0 → readerRefuses s 1 ≡ false
 reader-accepts s e = not-refused (readerRefuses s 1) (sym (ap (λ (r : RecordReply). r .number) (reading-by s (readerRefuses s 1) refl)) ∙ e)
 
 pub writer-accepts : (c : CallRecord) (b : List ℕ) → writing c b .reply .number ≡ 0 → writerRefuses c b 1 ≡ false
@@ -277,12 +277,12 @@ module _ (c : CallRecord) (rest : List ℕ) (hours : length (c .mw) ≡ 5) (fits
 -- ---- a record that was read is written back
 
 -- what the reader's tests show of a record that it accepts
-record Readable (s : List ℕ) : Type 0 where
-  ends : endIn s ≤ length s
-  kind : isKind (getD (fieldsIn s) 0 0) ≡ true
-  map : mapAt s ≡ mapFor (getD (fieldsIn s) 0 0) (fieldsIn s)
+pub record Readable (s : List ℕ) : Type 0 where
+  pub ends : endIn s ≤ length s
+  pub kind : isKind (getD (fieldsIn s) 0 0) ≡ true
+  pub map : mapAt s ≡ mapFor (getD (fieldsIn s) 0 0) (fieldsIn s)
 
-readable : (s : List ℕ) → readerRefuses s 1 ≡ false → Readable s
+pub readable : (s : List ℕ) → readerRefuses s 1 ≡ false → Readable s
 unfolding readerRefuses
 readable s e =
     let kind : ℕ = getD (fieldsIn s) 0 0 in

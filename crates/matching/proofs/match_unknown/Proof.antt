@@ -2,7 +2,8 @@
 -- Assumes nothing.
 use native.Mathlib.Omega.{arith}
 use Rattle.answers.proofs.Laws.{told}
-use Rattle.matching.proofs.Tests.{known-direction, session-is}
+use Rattle.cells.proofs.Views.{known-direction}
+use Rattle.matching.proofs.Tests.{session-is}
 use borrow.Author.Needs.{needs}
 use Rattle.matching.proofs.match_unknown.Statement.{statement}
 use Rattle.matching.proofs.match_unknown.Tie as tie

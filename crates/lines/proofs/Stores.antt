@@ -1,0 +1,59 @@
+-- Texts stored one after the other.
+-- Assumes nothing.
+use Prim.Native.Nat.{ℕ, zero, suc, _+_, _-_, _≤_}
+use mathlib.Core.Path.{_≡_, refl, sym, ap, _∙_}
+use mathlib.Core.List.{List, [], _∷_, _++_, append-nil, append-assoc}
+use native.Mathlib.Nat.{add-zero}
+use native.Mathlib.Omega.{arith}
+use lib.ListN.{length, set, take, drop, length-append, length-drop}
+use lib.Seq.{sets, sets-eq, length-sets, take-length, drop-length, length-take-le, drop-drop, take-at}
+use Rattle.io.specs.Digits.{digits, Fewest}
+use Rattle.lines.specs.Text.{decimal, digitsOf, Put, Holds}
+use Rattle.lines.proofs.Digits.{digits-are}
+
+pub sets-append : (b : List ℕ) (at : ℕ) (xs ys : List ℕ) → sets b at (xs ++ ys) ≡ sets (sets b at xs) (at + length xs) ys
+sets-append b at [] ys = rw (add-zero at)
+sets-append b at (x ∷ xs) ys = let e : at + length (x ∷ xs) ≡ suc at + length xs = omega arith in rw e (sets-append (set b at x) (suc at) xs ys)
+
+drop-past : (n : ℕ) (xs : List ℕ) → length xs ≡ n → drop n xs ≡ []
+drop-past n xs e = rw (← e) (drop-length xs)
+
+-- a part that a copy fills
+pub copied : (b : List ℕ) (at : ℕ) (text : List ℕ) → at + length text ≤ length b
+    → take at b ++ ((take (length text) text ++ drop (length text) (take (at + length text - at) (drop at b))) ++ drop (at + length text - at) (drop at b)) ≡ sets b at text
+copied b at text h =
+    let n : at + length text - at ≡ length text = omega arith in
+    let part : length (take (length text) (drop at b)) ≡ length text = length-take-le (length text) (drop at b) (simp length-drop (omega arith)) in
+    let e : drop (length text) (take (length text) (drop at b)) ≡ [] = drop-past (length text) (take (length text) (drop at b)) part in
+    rw (n, take-length text, e, append-nil text, drop-drop (length text) at b) (sym (sets-eq text b at h ∙ append-assoc (take at b) text (drop (at + length text) b)))
+
+-- the digits of a number, and the byte after them
+pub stored : (b b′ : List ℕ) (at n r e : ℕ) (text : List ℕ) → b′ ≡ sets b at text → r ≡ length text → text ≡ digits 10 r n → Fewest 10 1 n r → r ≤ 20
+    → Put b at (decimal n ++ (e ∷ [])) (at + r + 1) (set b′ (at + r) e)
+stored b b′ at n zero e text s l d f h = absurd (omega arith)
+stored b b′ at n (suc r) e text s l d f h =
+    let t : text ≡ decimal n = d ∙ digits-are 19 n r (omega arith) f in
+    let m : length (decimal n) ≡ suc r = sym (l ∙ ap length t) in
+    record {
+      stored = rw (s, t, sets-append b at (decimal n) (e ∷ []), m);
+      end = simp length-append (omega arith);
+      few = simp length-append (omega arith);
+    }
+
+joined : (b x y : List ℕ) (at : ℕ) {b1 b2 : List ℕ} {p : ℕ} → b1 ≡ sets b at x → p ≡ at + length x → b2 ≡ sets b1 p y → b2 ≡ sets b at (x ++ y)
+joined b x y at e f g = rw (sets-append b at x y, ← f, ← e) g
+
+-- a text of the buffer's size or less, from the front
+held : (b : List ℕ) {b′ text : List ℕ} {r : ℕ} → b′ ≡ sets b 0 text → r ≡ length text → length text ≤ length b → Holds b′ text r
+held b {b′} {text} {r} e n l =
+    let size : length b′ ≡ length b = ap length e ∙ length-sets b 0 text in
+    let front : take r b′ ≡ text = rw (e, sets-eq text b 0 (omega arith), n) (take-at text (drop (0 + length text) b) (length text) refl) in
+    record { text-is = front; counts = (omega arith, n ∙ ap length (sym front)) }
+
+-- four texts one after the other, from the front
+pub lined : (b : List ℕ) {x y z w b1 b2 b3 b4 : List ℕ} {p q r s : ℕ} → 84 ≤ length b
+    → Put b 0 x p b1 → Put b1 p y q b2 → Put b2 q z r b3 → Put b3 r w s b4 → Holds b4 (x ++ (y ++ (z ++ w))) s
+lined b {x} {y} {z} {w} {b1} {b2} {b3} {b4} {p} {q} {r} {s} l P Q R S =
+    let end2 = joined b2 z w q (R .stored) (R .end) (S .stored) in
+    let end1 = joined b1 y (z ++ w) p (Q .stored) (Q .end) end2 in
+    held b (joined b x (y ++ (z ++ w)) 0 (P .stored) (P .end) end1) (simp length-append (omega arith)) (simp length-append (omega arith))

@@ -1,0 +1,42 @@
+-- Numbers in decimal, and the line of a reply.
+-- Assumes nothing.
+use Prim.Native.Nat.{ℕ, zero, suc, _+_, _/_, _%_, _≤_}
+use mathlib.Core.Path.{_≡_}
+use mathlib.Core.Bool.{cond}
+use mathlib.Core.List.{List, [], _∷_, _++_}
+use lib.Dec.{ltb}
+use lib.ListN.{length, take}
+use lib.Seq.{sets}
+use Rattle.rules.specs.Calls.{Reply}
+
+-- the ASCII digits of a number, at most k of them
+unfoldable pub digitsOf : ℕ → ℕ → List ℕ
+digitsOf zero n = []
+digitsOf (suc k) n = cond (ltb n 10) [] (digitsOf k (n / 10)) ++ ((48 + n % 10) ∷ [])
+
+-- twenty digits hold any number of 64 bits
+abbrev pub decimal : ℕ → List ℕ
+decimal n = digitsOf 20 n
+
+abbrev pub space : ℕ
+space = 32
+
+abbrev pub newline : ℕ
+newline = 10
+
+-- the position, the number and the two details, with a space between them
+unfoldable pub lineOf : ℕ → Reply → List ℕ
+lineOf k a =
+    (decimal k ++ (space ∷ []))
+    ++ ((decimal (a .number) ++ (space ∷ [])) ++ ((decimal (a .first) ++ (space ∷ [])) ++ (decimal (a .second) ++ (newline ∷ []))))
+
+-- a text of at most 21 bytes is stored at a position; r is the position past it
+pub record Put (before : List ℕ) (at : ℕ) (text : List ℕ) (r : ℕ) (after : List ℕ) : Type 0 where
+  pub stored : after ≡ sets before at text
+  pub end : r ≡ at + length text
+  pub few : length text ≤ 21
+
+-- the first r bytes of a buffer are the text; the second part follows, and lends `[..r]` without more
+pub record Holds (buffer text : List ℕ) (r : ℕ) : Type 0 where
+  pub text-is : take r buffer ≡ text
+  pub counts : (r ≤ length buffer) × (r ≡ length (take r buffer))

@@ -1,0 +1,5 @@
+pub mod Made
+pub mod Taking
+pub mod Front
+pub mod Printing
+pub mod Fronts

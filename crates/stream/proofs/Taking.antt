@@ -1,0 +1,92 @@
+-- From the reader's promise and the call's to what the record at the front of bytes does.
+-- Assumes nothing.
+use Prim.Native.Nat.{ℕ, _≤_}
+use mathlib.Core.Path.{_≡_, refl, ap, subst, _∙_}
+use mathlib.Core.Bool.{Bool, true, false, cond}
+use mathlib.Core.List.{List, []}
+use native.Mathlib.Omega.{arith}
+use lib.Dec.{eqb}
+use lib.ListN.{length}
+use Rattle.rules.specs.Book.{Book}
+use Rattle.rules.specs.Calls.{Reply}
+use Rattle.rules.specs.Said.{said, saidNumbers, refusedBy}
+use Rattle.rules.specs.Run.{applied}
+use Rattle.rules.specs.Records.{RecordReply, isKind, callOf, fieldsIn, endIn, readerRefuses, noCall, reading}
+use Rattle.rules.specs.declared.Answer.{Answer}
+use Rattle.rules.specs.declared.Answer.the-variants.{Record}
+use Rattle.rules.specs.declared.CallRecord.{CallRecord}
+use Rattle.rules.specs.declared.ReplyNumbers.{ReplyNumbers}
+use Rattle.rules.proofs.Records.{Readable, readable, reading-by}
+use Rattle.cells.specs.View.{bookOf}
+use Rattle.record.specs.declared.RecordRead.{RecordRead}
+use Rattle.record.specs.Promises.{readSaid, Reads}
+use Rattle.lines.specs.Text.{lineOf, Holds}
+use Rattle.stream.specs.declared.Taken.{Taken}
+use Rattle.stream.specs.Records.{callMade, AnswersRecord, taken, Takes, Turns}
+
+pub taken-read : (b : Book) (s : List ℕ) → reading s .number ≡ 0
+    → taken b s ≡ record { reply = applied b (callMade (reading s .call)) .reply; book = applied b (callMade (reading s .call)) .book; length = reading s .length }
+unfolding taken
+taken-read b s e = rw e
+
+pub taken-refused : (b : Book) (s : List ℕ) → reading s .number ≡ 1 → taken b s ≡ record { reply = refusedBy 1; book = b; length = 0 }
+unfolding taken
+taken-refused b s e = rw e
+
+module _ (b s : List ℕ) (r : RecordRead) (a : Answer) (b′ : List ℕ) (p : Reads s r) (w : AnswersRecord b (r .call) a b′) where
+  abbrev as-read : RecordReply → Type 0
+  as-read x = (r .length ≡ x .length) × (r .call ≡ x .call)
+
+  same : as-read (reading s)
+  same = (ap (λ (x : RecordReply). x .length) (p .reply), ap (λ (x : RecordReply). x .call) (p .reply))
+
+  -- the record was read: its call is answered
+  when-read : readerRefuses s 1 ≡ false → Takes b s (record { answer = a; length = r .length }) b′
+  unfolding callOf
+  when-read e =
+      let rd = reading-by s false e in
+      let k = ap (λ (x : CallRecord). isKind (x .kind)) (same .1 ∙ ap (λ (x : RecordReply). x .call) rd) ∙ readable s e .kind in
+      let t = taken-read (bookOf b) s (ap (λ (x : RecordReply). x .number) rd) in
+      let h = w .made k in
+      record {
+        reply = rw (t, ← same .1) (h .reply);
+        book = rw (t, ← same .1) (h .book);
+        size = rw t (same .0);
+        kept = h .kept;
+        within = rw (same .0, rd) (readable s e .ends);
+      }
+
+  -- the reader refused it, and its call has no kind
+  when-refused : readerRefuses s 1 ≡ true → Takes b s (record { answer = a; length = r .length }) b′
+  unfolding noCall callOf
+  when-refused e =
+      let rd = reading-by s true e in
+      let t = taken-refused (bookOf b) s (ap (λ (x : RecordReply). x .number) rd) in
+      let h = w .none (ap (λ (x : CallRecord). isKind (x .kind)) (same .1 ∙ ap (λ (x : RecordReply). x .call) rd)) in
+      record {
+        reply = rw t (ap said (h .0));
+        book = rw t (ap bookOf (h .1));
+        size = rw t (same .0 ∙ ap (λ (x : RecordReply). x .length) rd);
+        kept = λ _. h .1;
+        within = rw (same .0, rd) (omega arith);
+      }
+
+  pub takes : Takes b s (record { answer = a; length = r .length }) b′
+  takes = go (readerRefuses s 1) refl
+    where
+      go : (t : Bool) → readerRefuses s 1 ≡ t → Takes b s (record { answer = a; length = r .length }) b′
+      go true e = when-refused e
+      go false e = when-read e
+
+-- and its line
+pub turns : (b s : List ℕ) (k : ℕ) (line : List ℕ) (t : Taken) (n : ReplyNumbers) (w : ℕ) (b′ : List ℕ) → Takes b s t b′ → saidNumbers n ≡ said (t .answer)
+    → Holds line (lineOf k (saidNumbers n)) w → Turns b k s line (record { read = t .length; written = w; ends = eqb (n .number) 1 }) b′
+turns b s k line t n w b′ p e h =
+    let r = e ∙ p .reply in
+    record {
+      text = subst (λ (a : Reply). Holds line (lineOf k a) w) r h;
+      book = p .book;
+      size = p .size;
+      last = ap (λ (a : Reply). eqb (a .number) 1) r;
+      within = p .within;
+    }

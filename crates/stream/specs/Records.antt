@@ -1,0 +1,81 @@
+-- What a call record does to a book, and what the functions over records promise.
+-- Assumes nothing.
+use Prim.Native.Nat.{ℕ, _≤_}
+use mathlib.Core.Path.{_≡_}
+use mathlib.Core.Bool.{true, false, cond}
+use mathlib.Core.List.{List, [], _∷_}
+use lib.Dec.{eqb}
+use lib.ListN.{length, getD}
+use Rattle.rules.specs.Book.{Book}
+use Rattle.rules.specs.Calls.{Call, AddDirection, AddParty, OfferDirection, OfferProfile, Bid, Nominate, Match, Reply, isGrant}
+use Rattle.rules.specs.Said.{said, refusedBy}
+use Rattle.rules.specs.Run.{applied, run}
+use Rattle.rules.specs.Opening.{opening}
+use Rattle.rules.specs.Records.{isKind, reading}
+use Rattle.rules.specs.declared.Answer.{Answer}
+use Rattle.rules.specs.declared.Answer.the-variants.{Record}
+use Rattle.rules.specs.declared.CallRecord.{CallRecord}
+use Rattle.cells.specs.View.{bookOf}
+use Rattle.answers.specs.Promises.{Answers}
+use Rattle.lines.specs.Text.{lineOf, Holds}
+use Rattle.stream.specs.declared.Taken.{Taken}
+use Rattle.stream.specs.declared.Turn.{Turn}
+
+-- ---- the book that the program starts with
+
+-- 10XCZ-CEPS-GRIDE
+abbrev pub ceps : List ℕ
+ceps = 49 ∷ 48 ∷ 88 ∷ 67 ∷ 90 ∷ 45 ∷ 67 ∷ 69 ∷ 80 ∷ 83 ∷ 45 ∷ 71 ∷ 82 ∷ 73 ∷ 68 ∷ 69 ∷ []
+
+-- direction 0 from operator 0 to 4 in the one-hour model, and party 0 with access to operator 0
+unfoldable pub startCalls : List Call
+startCalls = AddDirection 0 4 1 ∷ AddParty ceps 1 ∷ []
+
+-- a Monday of 24 hours with them
+unfoldable pub startBook : Book
+startBook = run (opening 24 1 .book) startCalls .book
+
+-- ---- the call of a record
+
+-- by its kind: 1 direction offer, 2 profile offer, 3 bid, 4 nomination, 5 matching
+unfoldable pub callMade : CallRecord → Call
+callMade c =
+    cond (eqb (c .kind) 1) (OfferDirection (c .time) (c .direction) (c .hour .0) (getD (c .mw) 0 0)) (
+    cond (eqb (c .kind) 2) (OfferProfile (c .time) (c .profile) (c .hour .0) (getD (c .mw) 0 0)) (
+    cond (eqb (c .kind) 3) (Bid (c .time) (c .party) (c .direction) (c .session .0) (c .mw)) (
+    cond (eqb (c .kind) 4) (Nominate (c .time) (c .party) (c .other) (c .right) (c .side) (c .mw))
+    (Match (c .time) (c .direction) (c .session .0)))))
+
+-- a record of a kind is answered as its call; one of no kind, which the reader never gives, is refused with 1
+pub record AnswersRecord (before : List ℕ) (c : CallRecord) (r : Answer) (after : List ℕ) : Type 0 where
+  pub made : isKind (c .kind) ≡ true → Answers before (callMade c) r after
+  pub none : isKind (c .kind) ≡ false → (r ≡ Record) × (after ≡ before)
+
+-- ---- the record at the front of bytes
+
+pub record Effect : Type 0 where
+  pub reply : Reply
+  pub book : Book
+  pub length : ℕ
+
+-- a record that can't be read leaves the book; else its call is applied
+unfoldable pub taken : Book → List ℕ → Effect
+taken b s =
+    let c : Call = callMade (reading s .call) in
+    cond (eqb (reading s .number) 0) (record { reply = applied b c .reply; book = applied b c .book; length = reading s .length })
+    (record { reply = refusedBy (reading s .number); book = b; length = 0 })
+
+pub record Takes (before bytes : List ℕ) (r : Taken) (after : List ℕ) : Type 0 where
+  pub reply : said (r .answer) ≡ taken (bookOf before) bytes .reply
+  pub book : bookOf after ≡ taken (bookOf before) bytes .book
+  pub size : r .length ≡ taken (bookOf before) bytes .length
+  pub kept : isGrant (said (r .answer)) ≡ false → after ≡ before
+  pub within : r .length ≤ length bytes
+
+-- the record's line is at the front of the buffer; after a 1 the program ends
+pub record Turns (before : List ℕ) (position : ℕ) (bytes line : List ℕ) (r : Turn) (after : List ℕ) : Type 0 where
+  pub text : Holds line (lineOf position (taken (bookOf before) bytes .reply)) (r .written)
+  pub book : bookOf after ≡ taken (bookOf before) bytes .book
+  pub size : r .read ≡ taken (bookOf before) bytes .length
+  pub last : r .ends ≡ eqb (taken (bookOf before) bytes .reply .number) 1
+  pub within : r .read ≤ length bytes
