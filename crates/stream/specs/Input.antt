@@ -13,7 +13,7 @@ use Rattle.lines.specs.Text.{lineOf}
 use Rattle.stream.specs.declared.Turn.{Turn}
 use Rattle.stream.specs.Records.{taken, Turns, startBook}
 
--- more bytes than any record has
+-- no record has more bytes
 abbrev pub longest : ℕ
 longest = 24
 
