@@ -6,7 +6,7 @@ use mathlib.Core.Bool.{Bool, true, false, _||_}
 use mathlib.Core.List.{List, [], _∷_, _++_}
 use native.Mathlib.Omega.{arith}
 use lib.Dec.{leb}
-use lib.ListN.{length, getD, length-append, List·getD-append}
+use lib.ListN.{length, length-append, List·getD-append}
 use borrow.Author.Tests.{le-ltb, leb-false}
 use Rattle.rules.specs.Basics.{bit}
 use Rattle.rules.specs.Records.{widths, numberAt, mapAt, taking, fieldsAt, endAt, fieldsIn, endIn, readerRefuses}
