@@ -1,10 +1,9 @@
 // Opens a day book, reads call records from standard input to its end, and prints a line for each.
+ghost use mathlib.Core.Path.{_≡_};
 ghost use Prim.Native.Nat.{_-_, _<_, _≤_};
 ghost use lib.ListN.{length};
+ghost use Rattle.stream.specs.Input.{longest};
 use cells::Book;
-
-// More bytes than any record has.
-const LONGEST: usize = 24;
 
 // The unread bytes stand in the buffer from `from` up to `to`. The position is that of the next record.
 struct Run {
@@ -17,7 +16,7 @@ struct Run {
 
 // Moves what is unread to the front of the buffer, and reads once. A read that fails ends the input.
 fn read_more(buffer: &mut [u8], run: Run) -> Run
-    requires { ⌜ (run .from ≤ run .to) × ((run .to ≤ length (now buffer)) × (run .to - run .from < 24)) ⌝ }
+    requires { ⌜ (run .from ≤ run .to) × ((run .to ≤ length (now buffer)) × (run .to - run .from < longest)) ⌝ }
     ensures { λ r. ⌜ (r .from ≤ r .to) × (r .to ≤ length (now (buffer .exit))) ⌝ }
 {
     let count = stream::to_front(buffer, run.from, run.to);
@@ -29,6 +28,19 @@ fn read_more(buffer: &mut [u8], run: Run) -> Run
         ended: more == 0,
         position: run.position,
         done: false,
+    }
+}
+
+// No record is left.
+fn finished(run: Run) -> Run
+    ensures { λ r. ⌜ (r .from ≡ run .from) × (r .to ≡ run .to) ⌝ }
+{
+    Run {
+        from: run.from,
+        to: run.to,
+        ended: run.ended,
+        position: run.position,
+        done: true,
     }
 }
 
@@ -52,25 +64,19 @@ fn answer(book: &mut Book, buffer: &[u8], run: Run) -> Run
     }
 }
 
-// Reads more where the bytes at hand may be too few for a record; else answers the next, or ends where none is left.
+// Answers the next record where the bytes at hand are enough, or ends where none is left; else reads more.
 fn go_on(book: &mut Book, buffer: &mut [u8], run: Run) -> Run
     requires { ⌜ (run .from ≤ run .to) × (run .to ≤ length (now buffer)) ⌝ }
     ensures { λ r. ⌜ (r .from ≤ r .to) × (r .to ≤ length (now (buffer .exit))) ⌝ }
 {
     let count = run.to - run.from;
-    if count < LONGEST && !run.ended {
-        return read_more(buffer, run);
+    if stream::is_enough(count, run.ended) {
+        if count == 0 {
+            return finished(run);
+        }
+        return answer(book, buffer, run);
     }
-    if count == 0 {
-        return Run {
-            from: run.from,
-            to: run.to,
-            ended: true,
-            position: run.position,
-            done: true,
-        };
-    }
-    answer(book, buffer, run)
+    read_more(buffer, run)
 }
 
 // A proved loop has to end, and nothing says that the input does: it counts down from a number that no run uses up.

@@ -8,7 +8,7 @@ use native.Mathlib.Omega.{arith}
 use lib.ListN.{length, set, take, drop, length-append, length-drop}
 use lib.Seq.{sets, sets-eq, length-sets, take-length, drop-length, length-take-le, drop-drop, take-at}
 use Rattle.io.specs.Digits.{digits, Fewest}
-use Rattle.lines.specs.Text.{decimal, digitsOf, Put, Holds}
+use Rattle.lines.specs.Text.{decimal, Put, Holds}
 use Rattle.lines.proofs.Digits.{digits-are}
 
 pub sets-append : (b : List ℕ) (at : ℕ) (xs ys : List ℕ) → sets b at (xs ++ ys) ≡ sets (sets b at xs) (at + length xs) ys

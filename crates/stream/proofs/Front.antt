@@ -1,14 +1,16 @@
 -- A record is read alike from any bytes that are as many as the longest record, whatever follows them.
 -- Assumes nothing.
-use Prim.Native.Nat.{ℕ, zero, suc, _+_, _≤_}
+use Prim.Native.Nat.{ℕ, zero, suc, _+_, _≤_, _<_}
 use mathlib.Core.Path.{_≡_, refl, sym, _∙_}
-use mathlib.Core.Bool.{Bool, true, false}
+use mathlib.Core.Bool.{Bool, true, false, _||_}
 use mathlib.Core.List.{List, [], _∷_, _++_}
 use native.Mathlib.Omega.{arith}
-use lib.ListN.{length, getD, length-append, List·getD-append}
-use borrow.Author.Tests.{le-ltb}
+use lib.Dec.{leb}
+use lib.ListN.{length, length-append, List·getD-append}
+use borrow.Author.Tests.{le-ltb, leb-false}
 use Rattle.rules.specs.Basics.{bit}
 use Rattle.rules.specs.Records.{widths, numberAt, mapAt, taking, fieldsAt, endAt, fieldsIn, endIn, readerRefuses}
+use Rattle.rules.proofs.Bools.{or-left}
 use Rattle.rules.proofs.Records.{reading-by}
 use Rattle.stream.specs.Input.{longest, ReadsFront}
 
@@ -71,3 +73,7 @@ module _ (s t : List ℕ) (l : longest ≤ length s) where
 pub reads-front : ReadsFront
 reads-front s t l =
     reading-by (s ++ t) (readerRefuses s 1) (refuses-same s t l) ∙ rw (fields-same s t l, end-same s t l) (sym (reading-by s (readerRefuses s 1) refl))
+
+-- bytes that are not enough are fewer
+pub few-left : {r : Bool} (n : ℕ) (e : Bool) → r ≡ (leb longest n || e) → r ≡ false → n < longest
+few-left n e told f = leb-false longest n (or-left (leb longest n) e (sym told ∙ f))

@@ -2,7 +2,7 @@
 -- Assumes nothing.
 use Prim.Native.Nat.{ℕ, _≤_}
 use mathlib.Core.Path.{_≡_, refl, ap, subst, _∙_}
-use mathlib.Core.Bool.{Bool, true, false, cond}
+use mathlib.Core.Bool.{Bool, true, false}
 use mathlib.Core.List.{List, []}
 use native.Mathlib.Omega.{arith}
 use lib.Dec.{eqb}
@@ -11,27 +11,26 @@ use Rattle.rules.specs.Book.{Book}
 use Rattle.rules.specs.Calls.{Reply}
 use Rattle.rules.specs.Said.{said, saidNumbers, refusedBy}
 use Rattle.rules.specs.Run.{applied}
-use Rattle.rules.specs.Records.{RecordReply, isKind, callOf, fieldsIn, endIn, readerRefuses, noCall, reading}
+use Rattle.rules.specs.Records.{RecordReply, isKind, callOf, readerRefuses, noCall, reading}
 use Rattle.rules.specs.declared.Answer.{Answer}
-use Rattle.rules.specs.declared.Answer.the-variants.{Record}
 use Rattle.rules.specs.declared.CallRecord.{CallRecord}
 use Rattle.rules.specs.declared.ReplyNumbers.{ReplyNumbers}
-use Rattle.rules.proofs.Records.{Readable, readable, reading-by}
+use Rattle.rules.proofs.Records.{readable, reading-by}
 use Rattle.cells.specs.View.{bookOf}
 use Rattle.record.specs.declared.RecordRead.{RecordRead}
-use Rattle.record.specs.Promises.{readSaid, Reads}
+use Rattle.record.specs.Promises.{Reads}
 use Rattle.lines.specs.Text.{lineOf, Holds}
 use Rattle.stream.specs.declared.Taken.{Taken}
-use Rattle.stream.specs.Records.{callMade, AnswersRecord, taken, Takes, Turns}
+use Rattle.stream.specs.Records.{callMade, AnswersRecord, atFront, Takes, Turns}
 
-pub taken-read : (b : Book) (s : List ℕ) → reading s .number ≡ 0
-    → taken b s ≡ record { reply = applied b (callMade (reading s .call)) .reply; book = applied b (callMade (reading s .call)) .book; length = reading s .length }
-unfolding taken
-taken-read b s e = rw e
+pub front-read : (b : Book) (s : List ℕ) → reading s .number ≡ 0
+    → atFront b s ≡ record { reply = applied b (callMade (reading s .call)) .reply; book = applied b (callMade (reading s .call)) .book; length = reading s .length }
+unfolding atFront
+front-read b s e = rw e
 
-pub taken-refused : (b : Book) (s : List ℕ) → reading s .number ≡ 1 → taken b s ≡ record { reply = refusedBy 1; book = b; length = 0 }
-unfolding taken
-taken-refused b s e = rw e
+pub front-refused : (b : Book) (s : List ℕ) → reading s .number ≡ 1 → atFront b s ≡ record { reply = refusedBy 1; book = b; length = 0 }
+unfolding atFront
+front-refused b s e = rw e refl
 
 module _ (b s : List ℕ) (r : RecordRead) (a : Answer) (b′ : List ℕ) (p : Reads s r) (w : AnswersRecord b (r .call) a b′) where
   abbrev as-read : RecordReply → Type 0
@@ -46,7 +45,7 @@ module _ (b s : List ℕ) (r : RecordRead) (a : Answer) (b′ : List ℕ) (p : R
   when-read e =
       let rd = reading-by s false e in
       let k = ap (λ (x : CallRecord). isKind (x .kind)) (same .1 ∙ ap (λ (x : RecordReply). x .call) rd) ∙ readable s e .kind in
-      let t = taken-read (bookOf b) s (ap (λ (x : RecordReply). x .number) rd) in
+      let t = front-read (bookOf b) s (ap (λ (x : RecordReply). x .number) rd) in
       let h = w .made k in
       record {
         reply = rw (t, ← same .1) (h .reply);
@@ -61,7 +60,7 @@ module _ (b s : List ℕ) (r : RecordRead) (a : Answer) (b′ : List ℕ) (p : R
   unfolding noCall callOf
   when-refused e =
       let rd = reading-by s true e in
-      let t = taken-refused (bookOf b) s (ap (λ (x : RecordReply). x .number) rd) in
+      let t = front-refused (bookOf b) s (ap (λ (x : RecordReply). x .number) rd) in
       let h = w .none (ap (λ (x : CallRecord). isKind (x .kind)) (same .1 ∙ ap (λ (x : RecordReply). x .call) rd)) in
       record {
         reply = rw t (ap said (h .0));

@@ -11,9 +11,9 @@ use Rattle.rules.specs.Records.{reading}
 use Rattle.cells.specs.View.{bookOf}
 use Rattle.lines.specs.Text.{lineOf}
 use Rattle.stream.specs.declared.Turn.{Turn}
-use Rattle.stream.specs.Records.{taken, Turns, startBook}
+use Rattle.stream.specs.Records.{atFront, Turns, startBook}
 
--- more bytes than any record has
+-- no record has more bytes
 abbrev pub longest : ℕ
 longest = 24
 
@@ -32,8 +32,8 @@ unfoldable pub printed : ℕ → Book → ℕ → List ℕ → List ℕ
 printed zero b k s = []
 printed (suc n) b k [] = []
 printed (suc n) b k (x ∷ s) =
-    lineOf k (taken b (x ∷ s) .reply)
-    ++ cond (eqb (taken b (x ∷ s) .reply .number) 1) [] (printed n (taken b (x ∷ s) .book) (k + 1) (drop (taken b (x ∷ s) .length) (x ∷ s)))
+    lineOf k (atFront b (x ∷ s) .reply)
+    ++ cond (eqb (atFront b (x ∷ s) .reply .number) 1) [] (printed n (atFront b (x ∷ s) .book) (k + 1) (drop (atFront b (x ∷ s) .length) (x ∷ s)))
 
 -- the bytes at hand are all that is left, or enough for any record
 pub data Enough : List ℕ → List ℕ → Type 0 where
@@ -52,3 +52,25 @@ pub data Prints : List ℕ → ℕ → List ℕ → List ℕ → Type 0 where
 -- from the start, the text is that of the whole input, in whatever parts it came
 abbrev pub PrintsAll : Type 0
 PrintsAll = (cells input text : List ℕ) → bookOf cells ≡ startBook → Prints cells 1 input text → text ≡ printed (length input) startBook 1 input
+
+-- ---- the example of document 01
+
+-- a direction 0 offer of 100 in hour 1 at 1,000
+abbrev offerRecord : List ℕ
+offerRecord = 19 ∷ 66 ∷ 1 ∷ 232 ∷ 3 ∷ 0 ∷ 100 ∷ 0 ∷ 1 ∷ []
+
+-- a bid of 60 by party 0 at 1,100
+abbrev bidRecord : List ℕ
+bidRecord = 87 ∷ 2 ∷ 3 ∷ 76 ∷ 4 ∷ 0 ∷ 0 ∷ 1 ∷ 60 ∷ 0 ∷ []
+
+-- "1 0 100 0", "2 0 0 0", "3 15 1 0", each with the end of the line
+abbrev exampleText : List ℕ
+exampleText =
+    49 ∷ 32 ∷ 48 ∷ 32 ∷ 49 ∷ 48 ∷ 48 ∷ 32 ∷ 48 ∷ 10
+    ∷ 50 ∷ 32 ∷ 48 ∷ 32 ∷ 48 ∷ 32 ∷ 48 ∷ 10
+    ∷ 51 ∷ 32 ∷ 49 ∷ 53 ∷ 32 ∷ 49 ∷ 32 ∷ 48 ∷ 10
+    ∷ []
+
+-- the offer and two such bids print these three lines
+abbrev pub ExamplePrinted : Type 0
+ExamplePrinted = printed 3 startBook 1 (offerRecord ++ (bidRecord ++ bidRecord)) ≡ exampleText

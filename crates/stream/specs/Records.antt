@@ -59,23 +59,23 @@ pub record Effect : Type 0 where
   pub length : ℕ
 
 -- a record that can't be read leaves the book; else its call is applied
-unfoldable pub taken : Book → List ℕ → Effect
-taken b s =
+unfoldable pub atFront : Book → List ℕ → Effect
+atFront b s =
     let c : Call = callMade (reading s .call) in
     cond (eqb (reading s .number) 0) (record { reply = applied b c .reply; book = applied b c .book; length = reading s .length })
     (record { reply = refusedBy (reading s .number); book = b; length = 0 })
 
 pub record Takes (before bytes : List ℕ) (r : Taken) (after : List ℕ) : Type 0 where
-  pub reply : said (r .answer) ≡ taken (bookOf before) bytes .reply
-  pub book : bookOf after ≡ taken (bookOf before) bytes .book
-  pub size : r .length ≡ taken (bookOf before) bytes .length
+  pub reply : said (r .answer) ≡ atFront (bookOf before) bytes .reply
+  pub book : bookOf after ≡ atFront (bookOf before) bytes .book
+  pub size : r .length ≡ atFront (bookOf before) bytes .length
   pub kept : isGrant (said (r .answer)) ≡ false → after ≡ before
   pub within : r .length ≤ length bytes
 
 -- the record's line is at the front of the buffer; after a 1 the program ends
 pub record Turns (before : List ℕ) (position : ℕ) (bytes line : List ℕ) (r : Turn) (after : List ℕ) : Type 0 where
-  pub text : Holds line (lineOf position (taken (bookOf before) bytes .reply)) (r .written)
-  pub book : bookOf after ≡ taken (bookOf before) bytes .book
-  pub size : r .read ≡ taken (bookOf before) bytes .length
-  pub last : r .ends ≡ eqb (taken (bookOf before) bytes .reply .number) 1
+  pub text : Holds line (lineOf position (atFront (bookOf before) bytes .reply)) (r .written)
+  pub book : bookOf after ≡ atFront (bookOf before) bytes .book
+  pub size : r .read ≡ atFront (bookOf before) bytes .length
+  pub last : r .ends ≡ eqb (atFront (bookOf before) bytes .reply .number) 1
   pub within : r .read ≤ length bytes

@@ -1,10 +1,12 @@
 // Call records on a book: the call of a record, the record at the front of bytes, and its line.
 ghost use mathlib.Core.Path.{_≡_};
 ghost use Prim.Native.Nat.{_-_, _<_, _≤_};
+ghost use mathlib.Core.Bool.{_||_};
+ghost use lib.Dec.{leb};
 ghost use lib.ListN.{length};
 ghost use Rattle.cells.specs.View.{bookOf};
 ghost use Rattle.stream.specs.Records.{startBook, AnswersRecord, Takes, Turns};
-ghost use Rattle.stream.specs.Input.{Fronted};
+ghost use Rattle.stream.specs.Input.{longest, Fronted};
 use cells::Book;
 use lines::Line;
 use rules::Answer;
@@ -82,9 +84,16 @@ pub fn answer_next(book: &mut Book, position: u64, bytes: &[u8], line: &mut Line
     }
 }
 
+// The bytes at hand are enough to read a record: as many as the longest has, or all that is left.
+pub fn is_enough(count: usize, ended: bool) -> bool
+    ensures { λ r. ⌜ r ≡ (leb longest count || ended) ⌝ }
+{
+    count >= 24 || ended
+}
+
 // Moves the bytes from a position up to another to the front of the buffer: how many they are.
 pub fn to_front(buffer: &mut [u8], from: usize, to: usize) -> usize
-    requires { ⌜ (from ≤ to) × ((to ≤ length (now buffer)) × (to - from < 24)) ⌝ }
+    requires { ⌜ (from ≤ to) × ((to ≤ length (now buffer)) × (to - from < longest)) ⌝ }
     ensures { λ r. ⌜ Fronted (now (buffer .entry)) from to r (now (buffer .exit)) ⌝ }
 {
     let mut rest = [0u8; 24];

@@ -2,7 +2,6 @@
 -- Assumes nothing.
 use Prim.Native.Nat.{_≤_}
 use borrow.Author.Needs.{needs}
-use lib.ListN.{length}
 use Rattle.lines.specs.Text.{lineOf}
 use Rattle.lines.proofs.Stores.{lined}
 use Rattle.lines.proofs.write_line.Statement.{statement}

@@ -12,7 +12,7 @@ use Rattle.stream.proofs.to_front.Tie as tie
 
 -- what the first copy holds
 held : (c : tie.After-copy) → let a = c .before .before .before .before .before .args in take (c .copy .result) (c .copy .last .1 .0) ≡ keptOf (now (a .buffer)) (a .from) (a .to)
-held c = first-copy _ _ _ _ (c .copy .ensures .0) (c .copy .ensures .1)
+held c = let a = c .before .before .before .before .before .args in first-copy (keptOf (now (a .buffer)) (a .from) (a .to)) _ _ _ (c .copy .ensures .0) (c .copy .ensures .1)
 
 size : (c : tie.After-copy) → let a = c .before .before .before .before .before .args in length (keptOf (now (a .buffer)) (a .from) (a .to)) ≡ a .to - a .from
 size c = let p = c .before .before .before .before .before .pre in kept-size _ _ _ (p .0) (p .1 .0)
