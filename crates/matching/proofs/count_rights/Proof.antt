@@ -22,7 +22,7 @@ abbrev μ-loop : tie.MeasureT-loop
 μ-loop book direction session rights count₀ i₀ count i = rights - i
 
 loop-holds : tie.Need-loop-holds Inv-loop μ-loop
-loop-holds c = (omega (arith, c .count-in .ensures), count-is _ _ _ ∙ rw (← c .count-in .ensures, zero-add _) (each-start _ _ _))
+loop-holds c = (omega (arith, c .count-in .ensures), rw (c .count-in .ensures, zero-add _) (count-is _ _ _ ∙ each-start _ _ _))
 
 -- a turn counts one right at most
 few-more : (c : tie.After-count-right Inv-loop μ-loop) → c .count-right .result ≤ 1
