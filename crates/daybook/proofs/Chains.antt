@@ -2,10 +2,7 @@
 -- Assumes nothing.
 use Prim.Native.Nat.{ℕ, _+_}
 use mathlib.Core.Path.{_≡_, refl, sym, ap, _∙_}
-use mathlib.Core.Bool.{cond}
 use mathlib.Core.List.{List, [], _∷_, map}
-use lib.Dec.{eqb}
-use lib.ListN.{getD}
 use Rattle.rules.specs.Book.{Book}
 use Rattle.rules.specs.Calls.{Call, Reply}
 use Rattle.rules.specs.Said.{said}
@@ -18,9 +15,9 @@ use Rattle.rules.specs.declared.Answer.{Answer}
 use Rattle.rules.proofs.Demand.{demand3}
 use Rattle.cells.specs.View.{bookOf}
 use Rattle.answers.specs.declared.ConfirmedRead.{ConfirmedRead}
-use Rattle.answers.specs.Promises.{Opens, Answers, ReadsConfirmed}
+use Rattle.answers.specs.Promises.{Opens, ReadsConfirmed}
 use Rattle.daybook.specs.Chains.{Chain, done, next}
-use Rattle.daybook.specs.Demand.{confirmedSum, DayHolds, ProgramDemand3}
+use Rattle.daybook.specs.Demand.{confirmedSum, ProgramDemand3}
 
 record Follows (b : Book) (cs : List Call) (rs : List Answer) (last : List ℕ) : Type 0 where
   replies : run b cs .replies ≡ map said rs
