@@ -1,27 +1,23 @@
 -- The example of document 01, computed.
 -- Assumes nothing.
 use mathlib.Core.Path.{refl}
-use lib.Count.{ones, onesIn}
 use Rattle.rules.specs.Basics.{bit, mapOf, has, anyAbove, same, mwAt}
 use Rattle.rules.specs.Sessions.{sessionThere, firstHour, hoursIn, sessionOf}
-use Rattle.rules.specs.Windows.{within, gateHour, opens, bidsClose, nominationsClose, matchingOpens, held, bidOutside, nominationOutside, offerOutside, matchingOutside}
+use Rattle.rules.specs.Windows.{within, gateHour, opens, bidsClose, held, bidOutside, offerOutside}
 use Rattle.rules.specs.Codes.{between, charValue, allChars, weighted, isCode}
 use Rattle.rules.specs.Book.{holds, opened}
 use Rattle.rules.specs.Setup.{directionTaken, codeTaken}
-use Rattle.rules.specs.Bids.{profileShort, shortProfile, shortHour, shortage, share, withBid, wrapAdded, isRightOf, rightTaken, addedRight, withRight, rightFrom, rightNumber}
-use Rattle.rules.specs.Nominations.{isPairOf, pairTaken, pairOf, withSide, withPair, sideTotal, aboveRight, marks, countRights, lowerTotal, confirmedOf, confirmedAt}
-use Rattle.rules.specs.Refusals.{order, firstOf, field, setupShut, clock, hourUnknown, unknown, taken, gate, hoursLacking, wrongHours, noAccess, notOwner, isMatched, cycle, full, below, shortageOf, refuses}
+use Rattle.rules.specs.Bids.{profileShort, shortProfile, shortHour, shortage, share, withBid, withRight, rightNumber}
+use Rattle.rules.specs.Refusals.{order, firstOf, field, setupShut, clock, hourUnknown, unknown, taken, gate, hoursLacking, wrongHours, noAccess, notOwner, cycle, full, below, shortageOf, refuses}
 use Rattle.rules.specs.Effects.{isTimed, clockAfter, directionsAfter, profilesAfter, partiesAfter, offeredAfter, grantedAfter, rightsAfter, pairsAfter, matchedAfter, effect}
 use Rattle.rules.specs.Details.{detail, refusal}
 use Rattle.rules.specs.Run.{applied, run}
 use Rattle.rules.specs.Opening.{dayRefused, openingRefuses, dayHours, dayWeekday, opening}
-use Rattle.rules.specs.Reads.{directionReadRefuses, readDirection, confirmedReadRefuses, readConfirmed}
-use Rattle.rules.specs.Records.{widths, fieldsOf, callOf, kinds, stands, standing, bytesOf, body, recordOf, numberAt, fieldsAt, endAt, fieldsIn, endIn, readerRefuses, reading}
-use Rattle.rules.specs.Records.{noCall}
+use Rattle.rules.specs.Records.{widths, callOf, kinds, stands, standing, numberAt, fieldsAt, endAt, fieldsIn, endIn, readerRefuses, reading}
 use Rattle.lines.specs.Text.{digitsOf, lineOf}
 use Rattle.stream.specs.Records.{startCalls, startBook, callMade, atFront}
 use Rattle.stream.specs.Input.{printed, ExamplePrinted}
 
 pub example-printed : ExamplePrinted
-unfolding ones onesIn bit mapOf has anyAbove same mwAt sessionThere firstHour hoursIn sessionOf within gateHour opens bidsClose nominationsClose matchingOpens held bidOutside nominationOutside offerOutside matchingOutside between charValue allChars weighted isCode holds opened directionTaken codeTaken profileShort shortProfile shortHour shortage share withBid wrapAdded isRightOf rightTaken addedRight withRight rightFrom rightNumber isPairOf pairTaken pairOf withSide withPair sideTotal aboveRight marks countRights lowerTotal confirmedOf confirmedAt order firstOf field setupShut clock hourUnknown unknown taken gate hoursLacking wrongHours noAccess notOwner isMatched cycle full below shortageOf refuses isTimed clockAfter directionsAfter profilesAfter partiesAfter offeredAfter grantedAfter rightsAfter pairsAfter matchedAfter effect detail refusal applied run dayRefused openingRefuses dayHours dayWeekday opening directionReadRefuses readDirection confirmedReadRefuses readConfirmed widths fieldsOf callOf kinds stands standing bytesOf body recordOf numberAt fieldsAt endAt fieldsIn endIn readerRefuses reading noCall digitsOf lineOf startCalls startBook callMade atFront printed
+unfolding bit mapOf has anyAbove same mwAt sessionThere firstHour hoursIn sessionOf within gateHour opens bidsClose held bidOutside offerOutside between charValue allChars weighted isCode holds opened directionTaken codeTaken profileShort shortProfile shortHour shortage share withBid withRight rightNumber order firstOf field setupShut clock hourUnknown unknown taken gate hoursLacking wrongHours noAccess notOwner cycle full below shortageOf refuses isTimed clockAfter directionsAfter profilesAfter partiesAfter offeredAfter grantedAfter rightsAfter pairsAfter matchedAfter effect detail refusal applied run dayRefused openingRefuses dayHours dayWeekday opening widths callOf kinds stands standing numberAt fieldsAt endAt fieldsIn endIn readerRefuses reading digitsOf lineOf startCalls startBook callMade atFront printed
 example-printed = refl
