@@ -2,7 +2,7 @@
 -- Assumes nothing.
 use Prim.Native.Nat.{ℕ, _+_, _-_, _≤_, _<_}
 use mathlib.Core.Path.{_≡_, ap, _∙_}
-use mathlib.Core.Bool.{Bool, true, false, cond, not}
+use mathlib.Core.Bool.{Bool, true, false, cond}
 use mathlib.Core.List.{List}
 use native.Mathlib.Omega.{arith}
 use lib.Dec.{eqb, leb}
@@ -11,13 +11,13 @@ use borrow.Author.Tests.{le-leb, lt-leb}
 use Rattle.rules.specs.Basics.{noMw}
 use Rattle.rules.specs.Sessions.{sessionThere, firstHour, hoursIn, firstHourThere}
 use Rattle.rules.specs.Bids.{shortage}
-use Rattle.rules.specs.Refusals.{order, firstOf, sessionUnknown}
+use Rattle.rules.specs.Refusals.{order, firstOf}
 use Rattle.rules.specs.Reads.{rightReadRefuses, readRight}
 use Rattle.rules.specs.declared.Answer.the-variants.{Unknown}
 use Rattle.rules.proofs.Sessions.{hours-there}
-use Rattle.cells.specs.Layout.{DIRECTIONS, RIGHTS}
-use Rattle.cells.specs.View.{counted, dayHoursIn, directionAt, bookOf}
-use Rattle.cells.proofs.Views.{hours-few, model-at, hours-within, right-count, right-at}
+use Rattle.cells.specs.Layout.{RIGHTS}
+use Rattle.cells.specs.View.{counted, dayHoursIn, bookOf}
+use Rattle.cells.proofs.Views.{hours-few, hours-within, right-count, right-at}
 use Rattle.capacity.specs.Search.{Hours, shortageIn, found}
 use Rattle.capacity.specs.declared.Search.{Search}
 use Rattle.capacity.proofs.View.{shortage-view}
@@ -25,11 +25,6 @@ use Rattle.answers.specs.Promises.{saidRight}
 use Rattle.bids.specs.Work.{Session-known, Searched, rightIn}
 
 -- ---- the direction and the session
-
-pub session-is : (b : List ℕ) (d s n m : ℕ) → n ≡ dayHoursIn b → m ≡ directionAt b d .model → d < counted b DIRECTIONS 24
-    → not (sessionThere n m s) ≡ sessionUnknown (bookOf b) d s
-unfolding bookOf
-session-is b d s n m p q l = rw (p, q, model-at b d l)
 
 hours-some : (n model s : ℕ) → 23 ≤ n → 1 ≤ hoursIn n model s
 unfolding hoursIn

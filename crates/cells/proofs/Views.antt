@@ -2,16 +2,16 @@
 -- Assumes nothing.
 use Prim.Native.Nat.{ℕ, _+_, _*_, _-_, _≤_, _<_}
 use mathlib.Core.Path.{_≡_, refl, ap, _∙_}
-use mathlib.Core.Bool.{Bool, true, false, cond, _||_, _&&_, true≢false}
+use mathlib.Core.Bool.{Bool, true, false, cond, _||_, _&&_, not, true≢false}
 use mathlib.Core.List.{List, []}
 use native.Mathlib.Omega.{arith}
 use native.Mathlib.Nat.{zero-add}
 use lib.Dec.{eqb, leb, ltb, lit≤}
 use borrow.Author.Tests.{leb-false, ltb-false}
 use lib.ListN.{length, getD, List·getD-eq-default}
-use Rattle.rules.specs.Sessions.{hoursIn}
+use Rattle.rules.specs.Sessions.{sessionThere, hoursIn}
 use Rattle.rules.specs.Book.{Direction, Party, Pair, place, direction, party, right, leftAt, modelOf}
-use Rattle.rules.specs.Refusals.{directionUnknown, hourUnknown}
+use Rattle.rules.specs.Refusals.{directionUnknown, sessionUnknown, hourUnknown}
 use Rattle.cells.specs.Layout.{DIRECTIONS, PROFILES, PARTIES, OFFERED, GRANTED, MATCHED, RIGHTS, PAIRS}
 use Rattle.cells.specs.View.{cell, part, counted, dayHoursIn, directionAt, directionsIn, profilesIn, partyAt, partiesIn, offeredIn, grantedIn, matchedIn, rightAt, rightsIn, pairAt, pairsIn, bookOf}
 use Rattle.rules.proofs.Bools.{or-left, or-right}
@@ -122,6 +122,12 @@ direction-at b d l = rows-at (directionAt b) (counted b DIRECTIONS 24) 0 d (reco
 
 pub model-at : (b : List ℕ) (d : ℕ) → d < counted b DIRECTIONS 24 → modelOf (bookOf b) d ≡ directionAt b d .model
 model-at b d l = ap (λ (x : Direction). x .model) (direction-at b d l)
+
+-- the session of a direction that is there
+pub session-unknown : (b : List ℕ) (d s n m : ℕ) → n ≡ dayHoursIn b → m ≡ directionAt b d .model → d < counted b DIRECTIONS 24
+    → not (sessionThere n m s) ≡ sessionUnknown (bookOf b) d s
+unfolding bookOf
+session-unknown b d s n m p q l = rw (p, q, model-at b d l)
 
 pub right-count : (b : List ℕ) → length (bookOf b .rights) ≡ counted b RIGHTS 512
 unfolding bookOf rightsIn

@@ -3,17 +3,13 @@
 use Prim.Native.Nat.{ℕ, zero, suc, _+_, _-_, _≤_}
 use mathlib.Core.Path.{_≡_, refl, sym, ap, _∙_}
 use mathlib.Core.List.{List, [], _∷_, _++_, append-nil, append-assoc}
-use native.Mathlib.Nat.{add-zero}
 use native.Mathlib.Omega.{arith}
 use lib.ListN.{length, set, take, drop, length-append, length-drop}
 use lib.Seq.{sets, sets-eq, length-sets, take-length, drop-length, length-take-le, drop-drop, take-at}
 use Rattle.io.specs.Digits.{digits, Fewest}
+use Rattle.rules.proofs.Stores.{sets-append}
 use Rattle.lines.specs.Text.{decimal, Put, Holds}
 use Rattle.lines.proofs.Digits.{digits-are}
-
-pub sets-append : (b : List ℕ) (at : ℕ) (xs ys : List ℕ) → sets b at (xs ++ ys) ≡ sets (sets b at xs) (at + length xs) ys
-sets-append b at [] ys = rw (add-zero at)
-sets-append b at (x ∷ xs) ys = let e : at + length (x ∷ xs) ≡ suc at + length xs = omega arith in rw e (sets-append (set b at x) (suc at) xs ys)
 
 drop-past : (n : ℕ) (xs : List ℕ) → length xs ≡ n → drop n xs ≡ []
 drop-past n xs e = rw (← e) (drop-length xs)

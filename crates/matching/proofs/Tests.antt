@@ -2,7 +2,7 @@
 -- Assumes nothing.
 use Prim.Native.Nat.{ℕ, _≤_, _<_}
 use mathlib.Core.Path.{_≡_, refl}
-use mathlib.Core.Bool.{Bool, true, false, cond, _||_, _&&_, not}
+use mathlib.Core.Bool.{Bool, true, false, cond, _||_, _&&_}
 use mathlib.Core.List.{List, [], _∷_}
 use native.Mathlib.Omega.{arith}
 use lib.Dec.{leb, ltb, eqb}
@@ -12,8 +12,7 @@ use Rattle.rules.specs.Book.{Book, modelOf}
 use Rattle.rules.specs.Calls.{Match}
 use Rattle.rules.specs.Refusals.{order, firstOf, setupShut, taken, wrongHours, noAccess, notOwner, full, below, shortageOf, directionUnknown, sessionUnknown, refuses}
 use Rattle.rules.proofs.Bools.{or-left, or-right, and-left, and-right}
-use Rattle.cells.specs.Layout.{DIRECTIONS}
-use Rattle.cells.specs.View.{counted, dayHoursIn, directionAt, bookOf}
+use Rattle.cells.specs.View.{dayHoursIn, directionAt, bookOf}
 use Rattle.cells.proofs.Views.{known-direction, model-at, hours-within}
 use Rattle.answers.proofs.Laws.{Left}
 
@@ -23,11 +22,6 @@ unfolding firstOf order refuses setupShut taken wrongHours noAccess notOwner ful
 match-left b t d s = record { number-is = refl }
 
 -- ---- the direction and the session
-
-pub session-is : (b : List ℕ) (d s n m : ℕ) → n ≡ dayHoursIn b → m ≡ directionAt b d .model → d < counted b DIRECTIONS 24
-    → not (sessionThere n m s) ≡ sessionUnknown (bookOf b) d s
-unfolding bookOf
-session-is b d s n m p q l = rw (p, q, model-at b d l)
 
 -- a session that is there is one of 25
 session-within : (n model s : ℕ) → n ≤ 25 → sessionThere n model s ≡ true → (1 ≤ s) × (s ≤ 25)

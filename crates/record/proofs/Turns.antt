@@ -6,7 +6,7 @@ use mathlib.Core.Bool.{Bool, true, false, cond, _||_, _&&_, not}
 use mathlib.Core.List.{List, [], _∷_, _++_}
 use native.Mathlib.Omega.{arith}
 use native.Mathlib.Numerals.{add-one}
-use native.Mathlib.Nat.{add-zero, pow-le-pow-right}
+use native.Mathlib.Nat.{pow-le-pow-right}
 use mir.Val.{boolByte}
 use lib.Dec.{eqb}
 use lib.ListN.{length, getD, take, drop, set, length-append, length-drop, drop-of-length-le}
@@ -15,6 +15,7 @@ use lib.Seq.{drop-cons, append-snoc, take-suc-set, sets}
 use Rattle.rules.specs.Basics.{bit, mapOf, has}
 use Rattle.rules.specs.Records.{Kind, widths, stands, standing, foreign, bytesOf, body, numberAt, taking, fieldsAt, endAt}
 use Rattle.rules.proofs.Bits.{map-below}
+use Rattle.rules.proofs.Stores.{sets-append}
 use Rattle.rules.proofs.Records.{bytes-length, number-below, standing-length}
 use Rattle.record.specs.Steps.{Size}
 
@@ -91,10 +92,6 @@ field-number : (p : Bool) (w : ℕ) (s : List ℕ) (at : ℕ) → cond p (number
 unfolding numberAt
 field-number true w s at = refl
 field-number false w s at = refl
-
-pub sets-append : (b : List ℕ) (at : ℕ) (xs ys : List ℕ) → sets b at (xs ++ ys) ≡ sets (sets b at xs) (at + length xs) ys
-sets-append b at [] ys = rw (add-zero at)
-sets-append b at (x ∷ xs) ys = let e : at + length (x ∷ xs) ≡ suc at + length xs = omega arith in rw e (sets-append (set b at x) (suc at) xs ys)
 
 module _ (k : Kind) (vs : List ℕ) (i : ℕ) {p : Bool} {n : ℕ} (m : length vs ≡ 15) (l : i < 15) (e : p ≡ stands k i (getD vs i 0)) (z : Size i p n) where
   body-next : body k i (drop i widths) (drop i vs) ≡ bytesOf n (getD vs i 0) ++ body k (i + 1) (drop (i + 1) widths) (drop (i + 1) vs)

@@ -17,7 +17,7 @@ use Rattle.rules.proofs.Records.{bytes-length, neither, fields-below, reading-b
 use Rattle.record.specs.declared.Found.{Found}
 use Rattle.record.specs.Steps.{Finds, refusesFound, Length}
 use Rattle.record.specs.Promises.{FieldsFit, CallFits, Reads, Writes}
-use Rattle.record.proofs.Turns.{sets-append}
+use Rattle.rules.proofs.Stores.{sets-append}
 
 -- ---- reading
 

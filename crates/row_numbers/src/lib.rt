@@ -93,3 +93,28 @@ pub fn print_numbers(numbers: Numbers) {
         }
     }
 }
+
+// ---- numbers of calls
+
+// A number of the size that a call takes.
+pub fn byte(n: u32) -> u8 {
+    (n % 256) as u8
+}
+
+pub fn two_bytes(n: u32) -> u16 {
+    (n % 65536) as u16
+}
+
+// Five MW, from one of ten numbers on.
+pub fn five(given: [u32; 10], from: usize) -> [u16; 5] {
+    if 5 < from {
+        return [0; 5];
+    }
+    [
+        two_bytes(given[from]),
+        two_bytes(given[from + 1]),
+        two_bytes(given[from + 2]),
+        two_bytes(given[from + 3]),
+        two_bytes(given[from + 4]),
+    ]
+}

@@ -16,3 +16,4 @@ pub mod Cases
 pub mod Bits
 pub mod Records
 pub mod Marks
+pub mod Stores

@@ -1,9 +1,8 @@
 -- `bids::bid_unknown` meets its contract.
 -- Assumes nothing.
 use native.Mathlib.Omega.{arith}
-use Rattle.cells.proofs.Views.{known-direction}
+use Rattle.cells.proofs.Views.{known-direction, session-unknown}
 use Rattle.answers.proofs.Laws.{told}
-use Rattle.bids.proofs.Tests.{session-is}
 use borrow.Author.Needs.{needs}
 use Rattle.bids.proofs.bid_unknown.Statement.{statement}
 use Rattle.bids.proofs.bid_unknown.Tie as tie
@@ -24,7 +23,7 @@ returns-3 c =
     let u = c .before .before .before in
     let l = known-direction _ _ (told (u .before .direction-unknown .ensures) (u .if2 .left)) in
     rw (← u .before .before .before .party-unknown .ensures, u .before .before .if1 .left, ← u .before .direction-unknown .ensures, u .if2 .left, c .session-there .ensures)
-    (session-is _ _ _ _ _ (c .before .before .hours .ensures) (c .before .model-of .ensures) l)
+    (session-unknown _ _ _ _ _ (c .before .before .hours .ensures) (c .before .model-of .ensures) l)
 
 pub bid-unknown-spec : {M : Type 1} → statement M
 bid-unknown-spec =

@@ -2,8 +2,7 @@
 -- Assumes nothing.
 use native.Mathlib.Omega.{arith}
 use Rattle.answers.proofs.Laws.{told}
-use Rattle.cells.proofs.Views.{known-direction}
-use Rattle.matching.proofs.Tests.{session-is}
+use Rattle.cells.proofs.Views.{known-direction, session-unknown}
 use borrow.Author.Needs.{needs}
 use Rattle.matching.proofs.match_unknown.Statement.{statement}
 use Rattle.matching.proofs.match_unknown.Tie as tie
@@ -21,7 +20,7 @@ returns-2 c =
     let u = c .before .before .before in
     let l = known-direction _ _ (told (u .before .direction-unknown .ensures) (u .if1 .left)) in
     rw (← u .before .direction-unknown .ensures, u .if1 .left, c .session-there .ensures)
-    (session-is _ _ _ _ _ (c .before .before .hours .ensures) (c .before .model-of .ensures) l)
+    (session-unknown _ _ _ _ _ (c .before .before .hours .ensures) (c .before .model-of .ensures) l)
 
 pub match-unknown-spec : {M : Type 1} → statement M
 match-unknown-spec =
