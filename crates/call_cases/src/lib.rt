@@ -4,6 +4,75 @@ use call_rows::row_cases;
 use cells::Book;
 use printing::Tally;
 
+// 01: on a day of 25 hours session 1 is hours 1 to 5, session 2 hours 6 to 9.
+const LONG_DAY: [u8; 1046] = *b"\
+    hours 25, weekday 7 = 0 0 0|\
+    direction 0 to 4, model 4 = 0 0 0|\
+    entry of party 10XCZ-CEPS-GRIDE, access 1 = 0 0 0|\
+    offer at 1000 for direction 0, hour 1: 10 = 0 10 0|\
+    offer at 1000 for direction 0, hour 2: 10 = 0 10 0|\
+    offer at 1000 for direction 0, hour 3: 10 = 0 10 0|\
+    offer at 1000 for direction 0, hour 4: 10 = 0 10 0|\
+    offer at 1000 for direction 0, hour 5: 10 = 0 10 0|\
+    offer at 1000 for direction 0, hour 6: 10 = 0 10 0|\
+    offer at 1000 for direction 0, hour 7: 10 = 0 10 0|\
+    offer at 1000 for direction 0, hour 8: 10 = 0 10 0|\
+    offer at 1000 for direction 0, hour 9: 10 = 0 10 0|\
+    offer at 1000 for direction 0, hour 10: 10 = 0 10 0|\
+    bid at 1080 by party 0 on direction 0, session 1: 1 2 3 4 5 = 0 0 0|\
+    left of direction 0 in hour 1 = 0 9|\
+    left of direction 0 in hour 5 = 0 5|\
+    left of direction 0 in hour 6 = 0 10|\
+    bid at 1380 by party 0 on direction 0, session 2: 1 2 3 4 0 = 0 1 0|\
+    bid at 1380 by party 0 on direction 0, session 2: 1 2 3 4 5 = 9 0 0|\
+    left of direction 0 in hour 6 = 0 9|\
+    left of direction 0 in hour 9 = 0 6|\
+    left of direction 0 in hour 10 = 0 10|\
+";
+
+// 01: on a day of 23 hours session 6 is hours 20 to 23.
+const SHORT_DAY: [u8; 603] = *b"\
+    hours 23, weekday 7 = 0 0 0|\
+    direction 0 to 4, model 4 = 0 0 0|\
+    entry of party 10XCZ-CEPS-GRIDE, access 1 = 0 0 0|\
+    offer at 1000 for direction 0, hour 19: 10 = 0 10 0|\
+    offer at 1000 for direction 0, hour 20: 10 = 0 10 0|\
+    offer at 1000 for direction 0, hour 21: 10 = 0 10 0|\
+    offer at 1000 for direction 0, hour 22: 10 = 0 10 0|\
+    offer at 1000 for direction 0, hour 23: 10 = 0 10 0|\
+    offer at 1000 for direction 0, hour 24: 10 = 6 0 0|\
+    bid at 2220 by party 0 on direction 0, session 6: 1 2 3 4 0 = 0 0 0|\
+    left of direction 0 in hour 19 = 0 10|\
+    left of direction 0 in hour 20 = 0 9|\
+    left of direction 0 in hour 23 = 0 6|\
+";
+
+// 01: for hour 1 a bid at 1,080 and 1,289 is in, at 1,079 and 1,290 out; hour 24 closes at 2,670.
+const MONDAY: [u8; 625] = *b"\
+    hours 24, weekday 1 = 0 0 0|\
+    direction 0 to 4, model 1 = 0 0 0|\
+    entry of party 10XCZ-CEPS-GRIDE, access 1 = 0 0 0|\
+    offer at 1000 for direction 0, hour 1: 10 = 0 10 0|\
+    offer at 1000 for direction 0, hour 24: 10 = 0 10 0|\
+    bid at 1079 by party 0 on direction 0, session 1: 1 0 0 0 0 = 8 0 0|\
+    bid at 1080 by party 0 on direction 0, session 1: 1 0 0 0 0 = 0 0 0|\
+    bid at 1289 by party 0 on direction 0, session 1: 1 0 0 0 0 = 0 1 0|\
+    bid at 1290 by party 0 on direction 0, session 1: 1 0 0 0 0 = 8 0 0|\
+    bid at 2669 by party 0 on direction 0, session 24: 1 0 0 0 0 = 0 2 0|\
+    bid at 2670 by party 0 on direction 0, session 24: 1 0 0 0 0 = 8 0 0|\
+";
+
+// 01: on a Tuesday hour 24 closes for bids at 2,490.
+const TUESDAY: [u8; 353] = *b"\
+    hours 24, weekday 2 = 0 0 0|\
+    direction 0 to 4, model 1 = 0 0 0|\
+    entry of party 10XCZ-CEPS-GRIDE, access 1 = 0 0 0|\
+    offer at 1000 for direction 0, hour 24: 10 = 0 10 0|\
+    bid at 2489 by party 0 on direction 0, session 24: 1 0 0 0 0 = 0 0 0|\
+    bid at 2490 by party 0 on direction 0, session 24: 1 0 0 0 0 = 8 0 0|\
+    offer at 2490 for direction 0, hour 24: 20 = 8 0 0|\
+";
+
 // 01: four hours offered 150, 150, 200, 200; a bid is granted, a second is short in the fourth hour and takes nothing.
 const FOUR_HOURS: [u8; 741] = *b"\
     hours 24, weekday 1 = 0 0 0|\
@@ -255,7 +324,19 @@ const NOMINATIONS: [u8; 2614] = *b"\
     confirmed of right 0, out party 2, in party 0 = 6 0 0 0 0 0|\
 ";
 
-// 01's own cases.
+// 01's cases on sessions and gates.
+fn sessions_of_01(before: Tally, book: &mut Book) -> Tally {
+    let long_day = LONG_DAY;
+    let short_day = SHORT_DAY;
+    let monday = MONDAY;
+    let tuesday = TUESDAY;
+    let mut tally = row_cases(before, book, &long_day);
+    tally = row_cases(tally, book, &short_day);
+    tally = row_cases(tally, book, &monday);
+    row_cases(tally, book, &tuesday)
+}
+
+// 01's cases on capacity and matching.
 fn cases_of_01(before: Tally, book: &mut Book) -> Tally {
     let four_hours = FOUR_HOURS;
     let shared_profile = SHARED_PROFILE;
@@ -280,6 +361,7 @@ fn refusals(before: Tally, book: &mut Book) -> Tally {
 
 pub fn run(before: Tally) -> Tally {
     let mut book = [0u32; 14129];
-    let tally = cases_of_01(before, &mut book);
+    let sessions = sessions_of_01(before, &mut book);
+    let tally = cases_of_01(sessions, &mut book);
     refusals(tally, &mut book)
 }
