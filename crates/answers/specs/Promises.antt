@@ -39,15 +39,19 @@ Judged b c (No a) = (eqb (number b c) 0 ≡ false) × (said a ≡ refusal b c (n
 
 -- ---- the reads
 
+-- what a read of capacity left says, as the rules write it
 abbrev pub saidLeft : LeftRead → LeftReply
 saidLeft r = record { number = said (r .answer) .number; left = r .left }
 
+-- capacity left of a direction in an hour
 pub record ReadsDirection (cells : List ℕ) (d hour : ℕ) (r : LeftRead) : Type 0 where
   pub reply : saidLeft r ≡ readDirection (bookOf cells) d hour
 
+-- capacity left of a profile in an hour
 pub record ReadsProfile (cells : List ℕ) (p hour : ℕ) (r : LeftRead) : Type 0 where
   pub reply : saidLeft r ≡ readProfile (bookOf cells) p hour
 
+-- a right with holder, direction, session and MW
 abbrev pub saidRight : RightRead → RightReply
 saidRight r =
     record {
@@ -55,11 +59,14 @@ saidRight r =
       right = record { holder = r .holder; direction = r .direction; session = r .session .0; mw = r .mw };
     }
 
+-- a right by its number
 pub record ReadsRight (cells : List ℕ) (right : ℕ) (r : RightRead) : Type 0 where
   pub reply : saidRight r ≡ readRight (bookOf cells) right
 
+-- confirmed MW of a pair
 abbrev pub saidConfirmed : ConfirmedRead → ConfirmedReply
 saidConfirmed r = record { number = said (r .answer) .number; mw = r .mw }
 
+-- the pair by right, out party and in party
 pub record ReadsConfirmed (cells : List ℕ) (right out into : ℕ) (r : ConfirmedRead) : Type 0 where
   pub reply : saidConfirmed r ≡ readConfirmed (bookOf cells) right out into

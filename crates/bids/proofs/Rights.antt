@@ -1,8 +1,8 @@
 -- The search for a standing right is the rules' search, and its right, raised or new, is the right of the rules.
 -- Assumes nothing.
-use Prim.Native.Nat.{ℕ, zero, suc, _+_, _*_, _%_, _≤_, _<_}
-use mathlib.Core.Path.{_≡_, refl, sym, ap, _∙_}
-use mathlib.Core.Bool.{Bool, true, false, cond, _&&_}
+use Prim.Native.Nat.{ℕ, _+_, _*_, _%_, _≤_, _<_}
+use mathlib.Core.Path.{_≡_, sym, ap, _∙_}
+use mathlib.Core.Bool.{Bool, true, false, _&&_}
 use mathlib.Core.List.{List, [], _∷_, _++_}
 use native.Mathlib.Omega.{arith}
 use lib.Dec.{leb, ltb, eqb}
@@ -11,43 +11,30 @@ use borrow.Author.Tests.{lt-ltb, le-ltb}
 use Rattle.rules.specs.Book.{Right}
 use Rattle.rules.specs.Bids.{isRightOf, rightTaken, withRight, rightNumber}
 use Rattle.cells.specs.Layout.{CELLS, RIGHTS}
-use Rattle.cells.specs.Loops.{each, rows}
+use Rattle.cells.specs.Loops.{rows}
 use Rattle.cells.specs.View.{cell, cellFrom, part, counted, rightAt, rightsIn, bookOf}
 use Rattle.cells.specs.Bids.{addedFive}
 use Rattle.cells.specs.Updates.{withRights}
-use Rattle.cells.proofs.Firsts.{placeOf, place-le, some-is, changed-there, changed-new, tryRow, search-at, search-none, right-from, right-taken, raised, added-right}
+use Rattle.cells.proofs.Firsts.{placeOf, place-le, some-is, changed-there, changed-new, first-at, first-none, right-from, right-taken, raised, added-right}
 use Rattle.cells.proofs.Tables.{right-more, length-row}
 use Rattle.cells.proofs.Raised.{right-raised, length-five}
 use Rattle.cells.proofs.Views.{right-count, right-at, has-room}
-use Rattle.bids.specs.declared.Found.{Found}
-use Rattle.bids.specs.declared.Found.the-variants.{At, Nothing}
-use Rattle.bids.specs.Work.{tryRight, standingIn, Opened, Booked}
+use Rattle.cells.specs.declared.Found.the-variants.{At, Nothing}
+use Rattle.bids.specs.Work.{standingIn, Opened, Booked}
 
 -- ---- the search
 
 abbrev place : List ℕ → ℕ → ℕ → ℕ → ℕ
 place b h d s = placeOf (isRightOf h d s) (bookOf b .rights)
 
-tries : (b : List ℕ) (h d s n k : ℕ) → each (tryRight b h d s) n k Nothing ≡ each (tryRow (isRightOf h d s) At Nothing (rightAt b)) n k Nothing
-unfolding each tryRight tryRow
-tries b h d s zero k = refl
-tries b h d s (suc n) k = ap (λ (f : Found). cond (isRightOf h d s (rightAt b k)) (At k) f) (tries b h d s n (k + 1))
-
 -- a standing right was found, or none
 pub found-at : (b : List ℕ) (h d s i : ℕ) → standingIn b h d s ≡ At i → (i ≡ place b h d s) × (i < counted b RIGHTS 512)
 unfolding standingIn bookOf rightsIn
-found-at b h d s i e =
-    search-at (isRightOf h d s) At Nothing (rightAt b) (counted b RIGHTS 512) i
-    (λ x q. cc)
-    (λ q. let z : _≡_ {A = ℕ} 0 1 = cc in omega arith)
-    (sym (tries b h d s (counted b RIGHTS 512) 0) ∙ e)
+found-at b h d s i e = first-at (isRightOf h d s) (rightAt b) (counted b RIGHTS 512) i e
 
 found-none : (b : List ℕ) (h d s : ℕ) → standingIn b h d s ≡ Nothing → counted b RIGHTS 512 ≤ place b h d s
 unfolding standingIn bookOf rightsIn
-found-none b h d s e =
-    search-none (isRightOf h d s) At Nothing (rightAt b) (counted b RIGHTS 512)
-    (λ x q. let z : _≡_ {A = ℕ} 0 1 = cc in omega arith)
-    (sym (tries b h d s (counted b RIGHTS 512) 0) ∙ e)
+found-none b h d s e = first-none (isRightOf h d s) (rightAt b) (counted b RIGHTS 512) e
 
 taken-is : (b : List ℕ) (h d s : ℕ) → rightTaken h d s (bookOf b .rights) ≡ ltb (place b h d s) (length (bookOf b .rights))
 taken-is b h d s = right-taken h d s (bookOf b .rights) ∙ some-is (isRightOf h d s) (bookOf b .rights)

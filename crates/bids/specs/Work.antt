@@ -2,7 +2,7 @@
 -- Assumes nothing.
 use Prim.Native.Nat.{ℕ, _+_, _*_, _%_, _≤_, _<_}
 use mathlib.Core.Path.{_≡_}
-use mathlib.Core.Bool.{true, cond}
+use mathlib.Core.Bool.{true}
 use mathlib.Core.List.{List, [], _∷_}
 use lib.ListN.{length, getD}
 use Rattle.rules.specs.Sessions.{sessionThere, firstHour, hoursIn}
@@ -12,23 +12,19 @@ use Rattle.rules.specs.Effects.{effect}
 use Rattle.rules.specs.Details.{detail}
 use Rattle.rules.specs.declared.Answer.the-variants.{Granted}
 use Rattle.cells.specs.Layout.{CELLS, RIGHTS}
-use Rattle.cells.specs.Loops.{each}
+use Rattle.cells.specs.Search.{firstRow}
+use Rattle.cells.specs.declared.Found.{Found}
 use Rattle.cells.specs.View.{counted, rightAt, bookOf, Cells}
 use Rattle.cells.specs.Stores.{withRow}
 use Rattle.cells.specs.Updates.{withRights}
 use Rattle.capacity.specs.Search.{found}
 use Rattle.capacity.specs.declared.Search.{Search}
 use Rattle.answers.specs.declared.RightRead.{RightRead}
-use Rattle.bids.specs.declared.Found.{Found}
-use Rattle.bids.specs.declared.Found.the-variants.{At, Nothing}
 
 -- ---- the standing right
 
-unfoldable pub tryRight : List ℕ → ℕ → ℕ → ℕ → ℕ → Found → Found
-tryRight b h d s i rest = cond (isRightOf h d s (rightAt b i)) (At i) rest
-
 unfoldable pub standingIn : List ℕ → ℕ → ℕ → ℕ → Found
-standingIn b h d s = each (tryRight b h d s) (counted b RIGHTS 512) 0 Nothing
+standingIn b h d s = firstRow (isRightOf h d s) (rightAt b) (counted b RIGHTS 512)
 
 -- ---- the search for a shortage
 

@@ -18,14 +18,9 @@ use answers::RightRead;
 use answers::Verdict;
 use capacity::Search;
 use cells::Book;
+use cells::Found;
 use rules::Answer;
 use rules::Session;
-
-// What the search for a standing right finds: its number.
-enum Found {
-    At(u32),
-    Nothing,
-}
 
 // ---- tests
 

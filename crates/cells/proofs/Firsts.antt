@@ -13,7 +13,9 @@ use lib.ListN.{getD, set, length}
 use Rattle.rules.specs.Book.{Right}
 use Rattle.rules.specs.Bids.{wrapAdded, isRightOf, rightTaken, addedRight, rightFrom}
 use Rattle.cells.specs.Loops.{each, rows}
+use Rattle.cells.specs.Search.{tryRow, firstRow}
 use Rattle.cells.specs.View.{cell, counted}
+use Rattle.cells.specs.declared.Found.the-variants.{At, Nothing}
 use Rattle.cells.proofs.Rows.{rows-set}
 
 module _ {A : Type 0} (t : A → Bool) where
@@ -67,46 +69,51 @@ module _ {A : Type 0} (t : A → Bool) where
       go true e ih = let m : suc (length xs) ≤ 0 = rw e at l in absurd (omega arith)
       go false e ih = let m : suc (length xs) ≤ suc (placeOf xs) = rw e at l in ap (λ (r : List A). x ∷ r) (ih (omega arith))
 
-  -- the search, for any two answers `at` and `none`
-  module _ {F : Type 0} (at : ℕ → F) (none : F) (f : ℕ → A) where
-    unfoldable pub tryRow : ℕ → F → F
-    tryRow k rest = cond (t (f k)) (at k) rest
-
-    search-is : (n k : ℕ) → each tryRow n k none ≡ cond (ltb (placeOf (rows f n k)) n) (at (k + placeOf (rows f n k))) none
+  -- the search
+  module _ (f : ℕ → A) where
+    search-is : (n k : ℕ) → each (tryRow t f) n k Nothing ≡ cond (ltb (placeOf (rows f n k)) n) (At (k + placeOf (rows f n k))) Nothing
     unfolding each rows placeOf tryRow
     search-is zero k = refl
     search-is (suc n) k = go (t (f k)) (search-is n (k + 1))
       where
-        go : (s : Bool) → each tryRow n (k + 1) none ≡ cond (ltb (placeOf (rows f n (k + 1))) n) (at (k + 1 + placeOf (rows f n (k + 1)))) none
-            → cond s (at k) (each tryRow n (k + 1) none)
-            ≡ cond (ltb (cond s 0 (suc (placeOf (rows f n (k + 1))))) (suc n)) (at (k + cond s 0 (suc (placeOf (rows f n (k + 1)))))) none
+        go : (s : Bool) → each (tryRow t f) n (k + 1) Nothing ≡ cond (ltb (placeOf (rows f n (k + 1))) n) (At (k + 1 + placeOf (rows f n (k + 1)))) Nothing
+            → cond s (At k) (each (tryRow t f) n (k + 1) Nothing)
+            ≡ cond (ltb (cond s 0 (suc (placeOf (rows f n (k + 1))))) (suc n)) (At (k + cond s 0 (suc (placeOf (rows f n (k + 1)))))) Nothing
         go true ih = rw (lt-ltb 0 (suc n) (omega arith), add-zero k)
         go false ih =
             let e : k + suc (placeOf (rows f n (k + 1))) ≡ k + 1 + placeOf (rows f n (k + 1)) = omega arith in
             ih ∙ rw (e, leb·suc-suc (suc (placeOf (rows f n (k + 1)))) n)
 
-    -- what its answer says, where the answers can be told apart
+    -- what its answer says
     module _ (n : ℕ) where
       abbrev first : ℕ
       first = placeOf (rows f n 0)
 
-      found-is : each tryRow n 0 none ≡ cond (ltb first n) (at first) none
+      found-is : firstRow t f n ≡ cond (ltb first n) (At first) Nothing
+      unfolding firstRow
       found-is = search-is n 0 ∙ rw (zero-add first)
 
-      pub search-at : (i : ℕ) → ((x : ℕ) → at x ≡ at i → x ≡ i) → none ≢ at i → each tryRow n 0 none ≡ at i → (i ≡ first) × (i < n)
-      search-at i same apart e = go (ltb first n) refl
+      pub first-at : (i : ℕ) → firstRow t f n ≡ At i → (i ≡ first) × (i < n)
+      first-at i e = go (ltb first n) refl
         where
           go : (s : Bool) → ltb first n ≡ s → (i ≡ first) × (i < n)
           go true s =
-              let r : first ≡ i = same first (rw s at (sym found-is ∙ e)) in
+              let q : At first ≡ At i = rw s at (sym found-is ∙ e) in
+              let r : first ≡ i = cc in
               (sym r, rw (← r) (ltb-true first n s))
-          go false s = absurd (apart (rw s at (sym found-is ∙ e)))
+          go false s =
+              let q : Nothing ≡ At i = rw s at (sym found-is ∙ e) in
+              let z : _≡_ {A = ℕ} 0 1 = cc in
+              absurd (omega arith)
 
-      pub search-none : ((x : ℕ) → at x ≢ none) → each tryRow n 0 none ≡ none → n ≤ first
-      search-none apart e = go (ltb first n) refl
+      pub first-none : firstRow t f n ≡ Nothing → n ≤ first
+      first-none e = go (ltb first n) refl
         where
           go : (s : Bool) → ltb first n ≡ s → n ≤ first
-          go true s = absurd (apart first (rw s at (sym found-is ∙ e)))
+          go true s =
+              let q : At first ≡ Nothing = rw s at (sym found-is ∙ e) in
+              let z : _≡_ {A = ℕ} 0 1 = cc in
+              absurd (omega arith)
           go false s = ltb-false first n s
 
 -- one row of a table changed

@@ -47,6 +47,12 @@ pub const PAIRS: usize = 7472;
 
 pub type Book = [u32; 14129];
 
+// What the search for a row of a table finds: its number.
+pub enum Found {
+    At(u32),
+    Nothing,
+}
+
 // Each cell is a number of 32 bits.
 fn sound(s: &[u32]) -> usize
     ensures { λ r. ⌜ Sound (now (s .entry)) r ⌝ }

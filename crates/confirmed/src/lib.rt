@@ -12,7 +12,7 @@ ghost use Rattle.totals.specs.Total.{ruled};
 ghost use Rattle.confirmed.specs.Work.{Gathered, hourOf, hourIn, refusedRead};
 use answers::ConfirmedRead;
 use cells::Book;
-use pairs::Found;
+use cells::Found;
 use rules::Answer;
 use totals::Pair;
 

@@ -33,12 +33,14 @@ module _ (n day : ℕ) (first : List ℕ) (cs : List Call) (rs : List Answer) (l
   abbrev pub granted : List Call
   granted = grantedCalls cs (map said rs)
 
+  -- directions and profiles of granted set-up
   abbrev pub directions : List Direction
   directions = directionsOf granted
 
   abbrev pub profiles : List ℕ
   profiles = profilesOf granted
 
+  -- the rights that the granted bids make
   abbrev pub rights : List Right
   rights = rightsFrom directions [] granted
 

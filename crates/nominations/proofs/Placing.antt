@@ -30,7 +30,7 @@ use Rattle.cells.proofs.Tables.{length-row}
 use Rattle.cells.proofs.Stores.{five-mw, clock-set}
 use Rattle.cells.proofs.Pairs.{with-pair, pair-more, side-replaced}
 use Rattle.cells.proofs.Views.{right-count, pair-count, pair-at, has-room}
-use Rattle.pairs.specs.declared.Found.the-variants.{At, Nothing}
+use Rattle.cells.specs.declared.Found.the-variants.{At, Nothing}
 use Rattle.pairs.specs.Search.{standingIn}
 use Rattle.pairs.proofs.Searches.{standing-at, standing-none}
 use Rattle.answers.specs.Promises.{Answers}

@@ -17,7 +17,7 @@ use Rattle.rules.specs.Refusals.{directionUnknown, rightUnknown, hoursLacking}
 use Rattle.cells.specs.Layout.{DIRECTIONS, PARTIES, RIGHTS, PAIRS}
 use Rattle.cells.specs.View.{cell, counted, dayHoursIn, weekdayIn, directionAt, rightAt, bookOf}
 use Rattle.cells.proofs.Views.{access-at, direction-at, right-count, right-at, pair-count}
-use Rattle.pairs.specs.declared.Found.the-variants.{At, Nothing}
+use Rattle.cells.specs.declared.Found.the-variants.{At, Nothing}
 use Rattle.pairs.specs.Search.{standingIn}
 use Rattle.pairs.proofs.Searches.{standing-at, standing-none}
 use Rattle.nominations.specs.Work.{holderOf, directionOf, sessionOf, operatorOf}

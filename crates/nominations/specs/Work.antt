@@ -47,6 +47,7 @@ pub record PairThere (b : List ℕ) (r o i k : ℕ) (b′ : List ℕ) : Type 0 w
   pub rest : bookOf b′ ≡ withPairs (bookOf b) (bookOf b′ .pairs)
   pub pair : (side : ℕ) (mw : List ℕ) → set (bookOf b′ .pairs) k (withSide side mw (pairAt b′ k)) ≡ withPair r o i side mw (bookOf b .pairs)
 
+-- the stores of a granted nomination leave the book of the rules, and its marks
 pub record Placed (b : List ℕ) (time sender other r side : ℕ) (mw : List ℕ) (n : ℕ) (b′ : List ℕ) : Type 0 where
   pub number-is : n ≡ detail (bookOf b) (Nominate time sender other r side mw)
   pub book-is : bookOf b′ ≡ effect (bookOf b) (Nominate time sender other r side mw)

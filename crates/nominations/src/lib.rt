@@ -17,7 +17,7 @@ ghost use Rattle.answers.specs.Promises.{Judged, Answers};
 ghost use Rattle.nominations.specs.Work.{holderOf, directionOf, sessionOf, operatorOf, Opened, PairThere, Placed};
 use answers::Verdict;
 use cells::Book;
-use pairs::Found;
+use cells::Found;
 use rules::Answer;
 use rules::Session;
 

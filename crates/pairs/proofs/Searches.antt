@@ -1,9 +1,9 @@
 -- The search for a pair is the rules' search.
 -- Assumes nothing.
-use Prim.Native.Nat.{ℕ, zero, suc, _+_, _*_, _≤_, _<_}
-use mathlib.Core.Path.{_≡_, refl, sym, ap, _∙_}
+use Prim.Native.Nat.{ℕ, _+_, _*_, _≤_, _<_}
+use mathlib.Core.Path.{_≡_, sym, _∙_}
 use mathlib.Core.Logic.{_≢_}
-use mathlib.Core.Bool.{true, false, cond, _&&_}
+use mathlib.Core.Bool.{true, false, _&&_}
 use mathlib.Core.List.{List}
 use native.Mathlib.Omega.{arith}
 use lib.Dec.{eqb}
@@ -11,39 +11,25 @@ use lib.ListN.{length}
 use borrow.Author.Tests.{lt-ltb, le-ltb, eq-eqb, ne-eqb}
 use Rattle.rules.specs.Nominations.{isPairOf, pairTaken, pairOf, emptyPair}
 use Rattle.cells.specs.Layout.{PAIRS}
-use Rattle.cells.specs.Loops.{each}
 use Rattle.cells.specs.View.{cell, counted, pairAt, pairsIn, bookOf}
-use Rattle.cells.proofs.Firsts.{placeOf, some-is, tryRow, search-at, search-none}
+use Rattle.cells.proofs.Firsts.{placeOf, some-is, first-at, first-none}
 use Rattle.cells.proofs.Views.{pair-count, pair-at}
 use Rattle.cells.proofs.Pairs.{pair-taken, pair-from}
-use Rattle.pairs.specs.declared.Found.{Found}
-use Rattle.pairs.specs.declared.Found.the-variants.{At, Nothing}
-use Rattle.pairs.specs.Search.{tryPair, standingIn}
+use Rattle.cells.specs.declared.Found.the-variants.{At, Nothing}
+use Rattle.pairs.specs.Search.{standingIn}
 
 -- where the pair stands, or the length of the table
 abbrev pub place : List ℕ → ℕ → ℕ → ℕ → ℕ
 place b r o i = placeOf (isPairOf r o i) (bookOf b .pairs)
 
-tries : (b : List ℕ) (r o i n k : ℕ) → each (tryPair b r o i) n k Nothing ≡ each (tryRow (isPairOf r o i) At Nothing (pairAt b)) n k Nothing
-unfolding each tryPair tryRow
-tries b r o i zero k = refl
-tries b r o i (suc n) k = ap (λ (f : Found). cond (isPairOf r o i (pairAt b k)) (At k) f) (tries b r o i n (k + 1))
-
 -- the number and the place of what was found
 found-at : (b : List ℕ) (r o i k : ℕ) → standingIn b r o i ≡ At k → (k ≡ place b r o i) × (k < counted b PAIRS 512)
 unfolding standingIn bookOf pairsIn
-found-at b r o i k e =
-    search-at (isPairOf r o i) At Nothing (pairAt b) (counted b PAIRS 512) k
-    (λ x q. cc)
-    (λ q. let z : _≡_ {A = ℕ} 0 1 = cc in omega arith)
-    (sym (tries b r o i (counted b PAIRS 512) 0) ∙ e)
+found-at b r o i k e = first-at (isPairOf r o i) (pairAt b) (counted b PAIRS 512) k e
 
 found-none : (b : List ℕ) (r o i : ℕ) → standingIn b r o i ≡ Nothing → counted b PAIRS 512 ≤ place b r o i
 unfolding standingIn bookOf pairsIn
-found-none b r o i e =
-    search-none (isPairOf r o i) At Nothing (pairAt b) (counted b PAIRS 512)
-    (λ x q. let z : _≡_ {A = ℕ} 0 1 = cc in omega arith)
-    (sym (tries b r o i (counted b PAIRS 512) 0) ∙ e)
+found-none b r o i e = first-none (isPairOf r o i) (pairAt b) (counted b PAIRS 512) e
 
 -- a pair that the search found
 pub record Standing (b : List ℕ) (r o i k : ℕ) : Type 0 where

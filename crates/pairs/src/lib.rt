@@ -6,12 +6,7 @@ ghost use Rattle.cells.specs.Layout.{PAIRS};
 ghost use Rattle.cells.specs.View.{pairAt};
 ghost use Rattle.pairs.specs.Search.{standingIn};
 use cells::Book;
-
-// What the search finds: the number of a pair.
-pub enum Found {
-    At(u32),
-    Nothing,
-}
+use cells::Found;
 
 // Where the five MW of one side of a pair stand.
 pub fn side_at(pair: u32, side: u8) -> usize

@@ -53,6 +53,7 @@ pub record AnswersRecord (before : List ℕ) (c : CallRecord) (r : Answer) (afte
 
 -- ---- the record at the front of bytes
 
+-- the reply to a record, the book after it, and the record's length
 pub record Effect : Type 0 where
   pub reply : Reply
   pub book : Book
@@ -65,6 +66,7 @@ atFront b s =
     cond (eqb (reading s .number) 0) (record { reply = applied b c .reply; book = applied b c .book; length = reading s .length })
     (record { reply = refusedBy (reading s .number); book = b; length = 0 })
 
+-- a call record is taken from the front of the bytes
 pub record Takes (before bytes : List ℕ) (r : Taken) (after : List ℕ) : Type 0 where
   pub reply : said (r .answer) ≡ atFront (bookOf before) bytes .reply
   pub book : bookOf after ≡ atFront (bookOf before) bytes .book

@@ -6,29 +6,32 @@ use native.Mathlib.Omega.{arith}
 use borrow.Author.Needs.{needs}
 use Rattle.cells.specs.Loops.{each}
 use Rattle.cells.proofs.Turns.{each-start, each-next, each-done, told-true, told-false}
-use Rattle.bids.specs.declared.Found.the-variants.{Nothing}
-use Rattle.bids.specs.Work.{standingIn, tryRight}
+use Rattle.cells.specs.Search.{tryRow, firstRow}
+use Rattle.cells.specs.declared.Found.the-variants.{Nothing}
+use Rattle.rules.specs.Bids.{isRightOf}
+use Rattle.cells.specs.View.{rightAt}
+use Rattle.bids.specs.Work.{standingIn}
 use Rattle.bids.proofs.standing.Statement.{statement}
 use Rattle.bids.proofs.standing.Tie as tie
 
 abbrev Inv-loop : tie.InvT-loop
 Inv-loop book holder direction session count i₀ i =
-    ((i ≤ count) × (count ≤ 512)) × (standingIn book holder direction session ≡ each (tryRight book holder direction session) (count - i) i Nothing)
+    ((i ≤ count) × (count ≤ 512)) × (standingIn book holder direction session ≡ each (tryRow (isRightOf holder direction session) (rightAt book)) (count - i) i Nothing)
 
 abbrev μ-loop : tie.MeasureT-loop
 μ-loop book holder direction session count i₀ i = count - i
 
 loop-holds : tie.Need-loop-holds Inv-loop μ-loop
-unfolding standingIn
+unfolding standingIn firstRow
 loop-holds c = (omega (arith, c .count-in .ensures), rw (c .count-in .ensures) (each-start _ _ _))
 
 returns : tie.Need-returns Inv-loop μ-loop
-unfolding tryRight
+unfolding tryRow
 returns c =
     sym (c .before .before .before .loop .inv .1 ∙ each-next _ _ _ _ (c .before .before .loop-test .taken) ∙ told-true _ _ (c .before .same-right .ensures) (c .if1 .taken))
 
 loop-again : tie.Need-loop-again Inv-loop μ-loop
-unfolding tryRight
+unfolding tryRow
 loop-again c =
     (search needs, c .before .before .before .loop .inv .1 ∙ each-next _ _ _ _ (c .before .before .loop-test .taken) ∙ told-false _ _ (c .before .same-right .ensures) (c .if1 .left))
 

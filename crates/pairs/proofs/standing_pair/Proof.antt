@@ -6,29 +6,32 @@ use native.Mathlib.Omega.{arith}
 use borrow.Author.Needs.{needs}
 use Rattle.cells.specs.Loops.{each}
 use Rattle.cells.proofs.Turns.{each-start, each-next, each-done, told-true, told-false}
-use Rattle.pairs.specs.declared.Found.the-variants.{Nothing}
-use Rattle.pairs.specs.Search.{standingIn, tryPair}
+use Rattle.cells.specs.Search.{tryRow, firstRow}
+use Rattle.cells.specs.View.{pairAt}
+use Rattle.cells.specs.declared.Found.the-variants.{Nothing}
+use Rattle.rules.specs.Nominations.{isPairOf}
+use Rattle.pairs.specs.Search.{standingIn}
 use Rattle.pairs.proofs.standing_pair.Statement.{statement}
 use Rattle.pairs.proofs.standing_pair.Tie as tie
 
 abbrev Inv-loop : tie.InvT-loop
 Inv-loop book right out into count i₀ i =
-    ((i ≤ count) × (count ≤ 512)) × (standingIn book right out into ≡ each (tryPair book right out into) (count - i) i Nothing)
+    ((i ≤ count) × (count ≤ 512)) × (standingIn book right out into ≡ each (tryRow (isPairOf right out into) (pairAt book)) (count - i) i Nothing)
 
 abbrev μ-loop : tie.MeasureT-loop
 μ-loop book right out into count i₀ i = count - i
 
 loop-holds : tie.Need-loop-holds Inv-loop μ-loop
-unfolding standingIn
+unfolding standingIn firstRow
 loop-holds c = (omega (arith, c .count-in .ensures), rw (c .count-in .ensures) (each-start _ _ _))
 
 returns : tie.Need-returns Inv-loop μ-loop
-unfolding tryPair
+unfolding tryRow
 returns c =
     sym (c .before .before .before .loop .inv .1 ∙ each-next _ _ _ _ (c .before .before .loop-test .taken) ∙ told-true _ _ (c .before .same-pair .ensures) (c .if1 .taken))
 
 loop-again : tie.Need-loop-again Inv-loop μ-loop
-unfolding tryPair
+unfolding tryRow
 loop-again c =
     (search needs, c .before .before .before .loop .inv .1 ∙ each-next _ _ _ _ (c .before .before .loop-test .taken) ∙ told-false _ _ (c .before .same-pair .ensures) (c .if1 .left))
 
