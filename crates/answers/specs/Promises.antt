@@ -41,7 +41,7 @@ Judged b c (No a) = (eqb (number b c) 0 ≡ false) × (said a ≡ refusal b c (n
 
 -- what a read of capacity left says, as the rules write it
 abbrev pub saidLeft : LeftRead → LeftReply
-saidLeft r = record { number = said (r .answer) .number; left = r .left }
+saidLeft r = record { reply = said (r .answer); left = r .left }
 
 -- capacity left of a direction in an hour
 pub record ReadsDirection (cells : List ℕ) (d hour : ℕ) (r : LeftRead) : Type 0 where
@@ -55,7 +55,7 @@ pub record ReadsProfile (cells : List ℕ) (p hour : ℕ) (r : LeftRead) : Type 
 abbrev pub saidRight : RightRead → RightReply
 saidRight r =
     record {
-      number = said (r .answer) .number;
+      reply = said (r .answer);
       right = record { holder = r .holder; direction = r .direction; session = r .session .0; mw = r .mw };
     }
 
@@ -65,7 +65,7 @@ pub record ReadsRight (cells : List ℕ) (right : ℕ) (r : RightRead) : Type 0 
 
 -- confirmed MW of a pair
 abbrev pub saidConfirmed : ConfirmedRead → ConfirmedReply
-saidConfirmed r = record { number = said (r .answer) .number; mw = r .mw }
+saidConfirmed r = record { reply = said (r .answer); mw = r .mw }
 
 -- the pair by right, out party and in party
 pub record ReadsConfirmed (cells : List ℕ) (right out into : ℕ) (r : ConfirmedRead) : Type 0 where

@@ -1,12 +1,12 @@
 // What the calls answer: a verdict before anything is stored, and the replies of the reads. What each call promises stands in specs/.
 ghost use mathlib.Core.Path.{_≡_};
-ghost use Prim.Native.Nat.{_-_};
 ghost use lib.Dec.{ltb};
 ghost use Rattle.rules.specs.Basics.{bit};
 ghost use Rattle.rules.specs.Refusals.{partyUnknown, directionUnknown, hourUnknown};
 ghost use Rattle.cells.specs.View.{bookOf};
 use cells::Book;
 use rules::Answer;
+use rules::Hour;
 use rules::Session;
 
 // What the tests of a call find: nothing against it, or the refusal.
@@ -36,13 +36,6 @@ pub struct ConfirmedRead {
     pub mw: [u32; 5],
 }
 
-// The difference, or 0.
-pub fn less(a: u32, b: u32) -> u32
-    ensures { λ r. ⌜ r ≡ a - b ⌝ }
-{
-    if b <= a { a - b } else { 0 }
-}
-
 // ---- tests that several calls share
 
 // Earlier than the latest granted timed call.
@@ -55,19 +48,20 @@ pub fn is_early(book: &Book, time: u32) -> bool
 pub fn direction_unknown(book: &Book, direction: u8) -> bool
     ensures { λ r. ⌜ r ≡ directionUnknown (bookOf (now (book .entry))) direction ⌝ }
 {
-    cells::count_in(book, cells::DIRECTIONS, 24) <= direction as u32
+    cells::count_in(book, cells::DIRECTIONS, cells::DIRECTION_LIMIT) <= direction as u32
 }
 
-pub fn hour_unknown(book: &Book, hour: u8) -> bool
-    ensures { λ r. ⌜ r ≡ hourUnknown (bookOf (now (book .entry))) hour ⌝ }
+pub fn hour_unknown(book: &Book, hour: Hour) -> bool
+    ensures { λ r. ⌜ r ≡ hourUnknown (bookOf (now (book .entry))) (hour .0) ⌝ }
 {
-    hour < 1 || cells::hours(book) < hour
+    let number = hour.0;
+    number < 1 || cells::hours(book) < number
 }
 
 pub fn party_unknown(book: &Book, party: u8) -> bool
     ensures { λ r. ⌜ r ≡ partyUnknown (bookOf (now (book .entry))) party ⌝ }
 {
-    cells::count_in(book, cells::PARTIES, 64) <= party as u32
+    cells::count_in(book, cells::PARTIES, cells::PARTY_LIMIT) <= party as u32
 }
 
 // The bit of an operator in an access map; operators past the map have none.

@@ -9,18 +9,25 @@ const BIDS: u32 = 100000;
 
 fn all_bids(book: &mut Book, counts: &mut [u32; 16]) {
     for i in 0..BIDS {
-        let kind = bid_choices::kind_of(i);
-        let party = bid_choices::party(kind, i);
-        let direction = bid_choices::direction(kind, i);
-        let session = Session(bid_choices::session(kind, i));
-        let mw = bid_choices::mw(kind, i);
-        let answer = daybook::bid(book, bid_choices::time(i), party, direction, session, mw);
+        let kind = bidrate_choices::kind_of(i);
+        let party = bidrate_choices::party(kind, i);
+        let direction = bidrate_choices::direction(kind, i);
+        let session = Session(bidrate_choices::session(kind, i));
+        let mw = bidrate_choices::mw(kind, i);
+        let answer = daybook::bid(
+            book,
+            bidrate_choices::time(i),
+            party,
+            direction,
+            session,
+            mw,
+        );
         tally::counted(counts, answer);
     }
 }
 
 fn main() {
-    let mut book = [0u32; 14129];
+    let mut book = [0u32; cells::CELLS];
     let mut before = [0u32; 16];
     tally::counted(&mut before, daybook::open_day(&mut book, 24, 1));
     setup::add_directions(&mut book, &mut before);

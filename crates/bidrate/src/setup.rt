@@ -89,7 +89,7 @@ pub fn add_profiles(book: &mut Book, counts: &mut [u32; 16]) {
 // Each with access to all seven operators, until there are 64.
 pub fn add_parties(book: &mut Book, counts: &mut [u32; 16]) {
     for number in 0..100u8 {
-        let answer = daybook::add_party(book, party_codes::code_of(number), 127);
+        let answer = daybook::add_party(book, cases_codes::code_of(number), 127);
         counted(counts, answer);
     }
 }

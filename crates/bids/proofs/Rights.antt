@@ -1,26 +1,37 @@
--- The search for a standing right is the rules' search, and its right, raised or new, is the right of the rules.
+-- The search for a standing right is the rules' search, a bid's entry is full where 13 applies, and its right, raised or new, is the right of the rules.
 -- Assumes nothing.
-use Prim.Native.Nat.{ℕ, _+_, _*_, _%_, _≤_, _<_}
-use mathlib.Core.Path.{_≡_, sym, ap, _∙_}
-use mathlib.Core.Bool.{Bool, true, false, _&&_}
+use Prim.Native.Nat.{ℕ, _+_, _*_, _≤_, _<_}
+use mathlib.Core.Path.{_≡_, refl, sym, ap, _∙_}
+use mathlib.Core.Logic.{⊎-elim}
+use mathlib.Core.Bool.{Bool, true, false, cond, _||_, _&&_, not, true≢false}
 use mathlib.Core.List.{List, [], _∷_, _++_}
 use native.Mathlib.Omega.{arith}
+use native.Mathlib.Nat.{add-zero}
 use lib.Dec.{leb, ltb, eqb}
 use lib.ListN.{length, set}
-use borrow.Author.Tests.{lt-ltb, le-ltb}
-use Rattle.rules.specs.Book.{Right}
-use Rattle.rules.specs.Bids.{isRightOf, rightTaken, withRight, rightNumber}
+use borrow.Author.Tests.{leb-false}
+use denote.Enum.Declared.{tagOf}
+use types.Run.{OneOf}
+use Rattle.rules.specs.Basics.{noMw}
+use Rattle.rules.specs.Book.{Right, rightLimit}
+use Rattle.rules.specs.Bids.{isRightOf, rightTaken, addedRight, withRight, rightFrom, rightNumber}
+use Rattle.rules.specs.declared.Session.{Session}
+use Rattle.rules.specs.declared.Answer.{Answer}
 use Rattle.cells.specs.Layout.{CELLS, RIGHTS}
 use Rattle.cells.specs.Loops.{rows}
 use Rattle.cells.specs.View.{cell, cellFrom, part, counted, rightAt, rightsIn, bookOf}
 use Rattle.cells.specs.Bids.{addedFive}
 use Rattle.cells.specs.Updates.{withRights}
-use Rattle.cells.proofs.Firsts.{placeOf, place-le, some-is, changed-there, changed-new, first-at, first-none, right-from, right-taken, raised, added-right}
+use Rattle.cells.proofs.Firsts.{placeOf, place-le, some-is, changed-there, changed-new, found-is, first-at, first-none, right-from, right-taken, raised, added-right}
 use Rattle.cells.proofs.Tables.{right-more, length-row}
 use Rattle.cells.proofs.Raised.{right-raised, length-five}
-use Rattle.cells.proofs.Views.{right-count, right-at, has-room}
+use Rattle.cells.proofs.Views.{right-count, right-at}
+use Rattle.cells.specs.declared.Found.{Found}
 use Rattle.cells.specs.declared.Found.the-variants.{At, Nothing}
-use Rattle.bids.specs.Work.{standingIn, Opened, Booked}
+use Rattle.bids.specs.declared.Entry.{Entry}
+use Rattle.bids.specs.declared.Entry.the-variants.{Full, Room, Standing}
+use Rattle.bids.proofs.Entry.{the-type}
+use Rattle.bids.specs.Work.{standingIn, rightFor, entryOf, entryIn, isFull, Enters, Opened, Booked, readOf}
 
 -- ---- the search
 
@@ -28,117 +39,161 @@ abbrev place : List ℕ → ℕ → ℕ → ℕ → ℕ
 place b h d s = placeOf (isRightOf h d s) (bookOf b .rights)
 
 -- a standing right was found, or none
-pub found-at : (b : List ℕ) (h d s i : ℕ) → standingIn b h d s ≡ At i → (i ≡ place b h d s) × (i < counted b RIGHTS 512)
+found-at : (b : List ℕ) (h d s i : ℕ) → standingIn b h d s ≡ At i → (i ≡ place b h d s) × (i < counted b RIGHTS rightLimit)
 unfolding standingIn bookOf rightsIn
-found-at b h d s i e = first-at (isRightOf h d s) (rightAt b) (counted b RIGHTS 512) i e
+found-at b h d s i e = first-at (isRightOf h d s) (rightAt b) (counted b RIGHTS rightLimit) i e
 
-found-none : (b : List ℕ) (h d s : ℕ) → standingIn b h d s ≡ Nothing → counted b RIGHTS 512 ≤ place b h d s
+found-none : (b : List ℕ) (h d s : ℕ) → standingIn b h d s ≡ Nothing → length (bookOf b .rights) ≤ place b h d s
 unfolding standingIn bookOf rightsIn
-found-none b h d s e = first-none (isRightOf h d s) (rightAt b) (counted b RIGHTS 512) e
+found-none b h d s e = rw (right-count b) (first-none (isRightOf h d s) (rightAt b) (counted b RIGHTS rightLimit) e)
+
+-- it depends on the rights alone
+standing-is : (b : List ℕ) (h d s : ℕ) → standingIn b h d s ≡ cond (ltb (place b h d s) (length (bookOf b .rights))) (At (place b h d s)) Nothing
+unfolding standingIn bookOf rightsIn
+standing-is b h d s = rw (right-count b) (found-is (isRightOf h d s) (rightAt b) (counted b RIGHTS rightLimit))
 
 taken-is : (b : List ℕ) (h d s : ℕ) → rightTaken h d s (bookOf b .rights) ≡ ltb (place b h d s) (length (bookOf b .rights))
 taken-is b h d s = right-taken h d s (bookOf b .rights) ∙ some-is (isRightOf h d s) (bookOf b .rights)
 
-pub taken-by : (b : List ℕ) (h d s i : ℕ) → standingIn b h d s ≡ At i → rightTaken h d s (bookOf b .rights) ≡ true
-taken-by b h d s i e =
-    let f = found-at b h d s i e in
-    taken-is b h d s ∙ lt-ltb (place b h d s) (length (bookOf b .rights)) (rw (right-count b, ← f .0) (f .1))
+-- ---- the entry
 
-pub taken-by-none : (b : List ℕ) (h d s : ℕ) → standingIn b h d s ≡ Nothing → rightTaken h d s (bookOf b .rights) ≡ false
-taken-by-none b h d s e = taken-is b h d s ∙ le-ltb (place b h d s) (length (bookOf b .rights)) (rw (right-count b) (found-none b h d s e))
+-- it is full where 13 applies
+full-is : (b : List ℕ) (model h d s : ℕ)
+    → isFull (entryIn b model h d s) ≡ (leb rightLimit (length (bookOf b .rights)) && (eqb model 1 || not (rightTaken h d s (bookOf b .rights))))
+unfolding entryIn rightFor
+full-is b model h d s =
+    rw (standing-is b h d s, taken-is b h d s, ← right-count b) (go (leb rightLimit (length (bookOf b .rights))) (eqb model 1) (ltb (place b h d s) (length (bookOf b .rights))))
+  where
+    go : (p m t : Bool) → isFull (cond p (entryOf (cond m Nothing (cond t (At (place b h d s)) Nothing))) Room) ≡ (p && (m || not t))
+    go false m t = refl
+    go true true t = refl
+    go true false true = refl
+    go true false false = refl
 
--- ---- room for a new right
+pub full-told : (b : List ℕ) (model h d s : ℕ) {e : Entry} {x : Bool} → e ≡ entryIn b model h d s → isFull e ≡ x
+    → (leb rightLimit (length (bookOf b .rights)) && (eqb model 1 || not (rightTaken h d s (bookOf b .rights)))) ≡ x
+full-told b model h d s q f = sym (full-is b model h d s) ∙ ap isFull (sym q) ∙ f
 
--- a table that is not full where a right is needed
-pub room-for : (b : List ℕ) (need : Bool) → (leb 512 (length (bookOf b .rights)) && need) ≡ false → need ≡ true → counted b RIGHTS 512 < 512
-room-for b need e h = rw (right-count b) at (has-room (length (bookOf b .rights)) 512 need e h)
+-- what the code's test for a full table leaves
+pub not-full : (e : Entry) → OneOf (1 ∷ 2 ∷ []) (tagOf the-type e) → isFull e ≡ false
+not-full Full h = absurd (⊎-elim (λ z. omega arith) (λ z. omega arith) h)
+not-full Room h = refl
+not-full (Standing i) h = refl
 
--- ---- a new right
-
--- the book and the number, where the rule makes a new right
-pub opened-books : (b b′ : List ℕ) (model h d s : ℕ) (mw : List ℕ) (n : ℕ) → counted b RIGHTS 512 < 512
-    → withRight model h d s mw (bookOf b .rights) ≡ bookOf b .rights ++ (record { holder = h; direction = d; session = s; mw = mw } ∷ [])
-    → rightNumber model h d s (bookOf b .rights) ≡ length (bookOf b .rights)
-    → Opened b h d s mw n b′ → Booked b model h d s mw n b′
-opened-books b b′ model h d s mw n l e f o =
-    let m : n < 512 = rw (o .number-is) l in
+-- it depends on the rights alone
+pub enters-still : {b b′ : List ℕ} {model h d s : ℕ} {e : Entry} → bookOf b′ .rights ≡ bookOf b .rights → Enters b model h d s e → Enters b′ model h d s e
+unfolding entryIn rightFor
+enters-still {b} {b′} {model} {h} {d} {s} r k =
     record {
-      count = ap length (o .cells-are) ∙ length-row RIGHTS n (h ∷ d ∷ s ∷ mw) b ∙ o .cells .count;
-      number-is = o .number-is ∙ sym (right-count b) ∙ sym f;
-      book-is =
-          ap bookOf (o .cells-are)
-          ∙ right-more b n h d s mw (o .bytes) m (o .cells .count) (o .mw-five) (sym (o .number-is))
-          ∙ ap (λ (rs : List Right). withRights (bookOf b) rs) (sym e);
+      entry-is = k .entry-is ∙ rw (standing-is b h d s, standing-is b′ h d s, ← right-count b, ← right-count b′, r);
+      free = k .free;
     }
 
-module _ (b : List ℕ) (h d s : ℕ) (mw : List ℕ) where
-  -- one-hour model
-  pub new-right : (model : ℕ) → eqb model 1 ≡ true → withRight model h d s mw (bookOf b .rights) ≡ bookOf b .rights ++ (record { holder = h; direction = d; session = s; mw = mw } ∷ [])
-  unfolding withRight
-  new-right model t = rw t
+module _ {b : List ℕ} {model h d s : ℕ} {e : Entry} (k : Enters b model h d s e) where
+  -- the right that the verdict found
+  pub entered-at : (i : ℕ) → e ≡ Standing i → rightFor b model h d s ≡ At i
+  unfolding entryIn
+  entered-at i q = go (leb rightLimit (counted b RIGHTS rightLimit)) (rightFor b model h d s) (sym (k .entry-is) ∙ q)
+    where
+      go : (t : Bool) (f : Found) → cond t (entryOf f) Room ≡ Standing i → f ≡ At i
+      go true (At j) z = cc
+      go true Nothing z = absurd (let n : _≡_ {A = ℕ} 0 1 = cc in omega arith)
+      go false f z = absurd (let n : _≡_ {A = ℕ} 0 1 = cc in omega arith)
 
-  pub new-number : (model : ℕ) → eqb model 1 ≡ true → rightNumber model h d s (bookOf b .rights) ≡ length (bookOf b .rights)
-  unfolding rightNumber
-  new-number model t = rw t
+  -- a bid that no right takes has room for a new one
+  pub has-room : rightFor b model h d s ≡ Nothing → counted b RIGHTS rightLimit < rightLimit
+  unfolding entryIn
+  has-room n = go (leb rightLimit (counted b RIGHTS rightLimit)) refl
+    where
+      go : (t : Bool) → leb rightLimit (counted b RIGHTS rightLimit) ≡ t → counted b RIGHTS rightLimit < rightLimit
+      go true t = absurd (true≢false (rw (k .entry-is, t, n) at (k .free)))
+      go false t = leb-false rightLimit (counted b RIGHTS rightLimit) t
 
-  -- four-hour model, no standing right
-  pub else-right : (model : ℕ) → eqb model 1 ≡ false → standingIn b h d s ≡ Nothing
-      → withRight model h d s mw (bookOf b .rights) ≡ bookOf b .rights ++ (record { holder = h; direction = d; session = s; mw = mw } ∷ [])
-  unfolding withRight
-  else-right model t e =
-      rw t (added-right h d s mw (bookOf b .rights) ∙ changed-new (isRightOf h d s) (raised mw) _ (bookOf b .rights) (rw (right-count b) (found-none b h d s e)))
+-- ---- the right that takes the MW
 
-  pub else-number : (model : ℕ) → eqb model 1 ≡ false → standingIn b h d s ≡ Nothing → rightNumber model h d s (bookOf b .rights) ≡ length (bookOf b .rights)
-  unfolding rightNumber
-  else-number model t e =
-      let n = found-none b h d s e in
-      rw t (right-from h d s (bookOf b .rights) ∙ (let q = place-le (isRightOf h d s) (bookOf b .rights) in let r = right-count b in omega arith))
+module _ (b : List ℕ) (model h d s i : ℕ) (e : rightFor b model h d s ≡ At i) where
+  stands : (eqb model 1 ≡ false) × (standingIn b h d s ≡ At i)
+  unfolding rightFor
+  stands = go (eqb model 1) e
+    where
+      go : (t : Bool) → cond t Nothing (standingIn b h d s) ≡ At i → (t ≡ false) × (standingIn b h d s ≡ At i)
+      go true z = absurd (let n : _≡_ {A = ℕ} 0 1 = cc in omega arith)
+      go false z = (refl, z)
 
-  -- four-hour model, the standing right i
-  module _ (i : ℕ) (e : standingIn b h d s ≡ At i) (u : length b ≡ CELLS) (size : length mw ≡ 5) where
-    below : i < 512
-    below = let f = found-at b h d s i e .1 in omega arith
+  pub below : i < counted b RIGHTS rightLimit
+  below = found-at b h d s i (stands .1) .1
 
-    pub raised-books : (model : ℕ) → eqb model 1 ≡ false → Booked b model h d s mw i (addedFive (RIGHTS + 4 + i * 8) mw b)
-    unfolding withRight rightNumber
-    raised-books model t =
-        let f = found-at b h d s i e in
-        let l : i < length (bookOf b .rights) = rw (right-count b) (f .1) in
+-- ---- the right of a granted bid
+
+module _ (b : List ℕ) (model h d s : ℕ) (mw : List ℕ) where
+  abbrev new : Right
+  new = record { holder = h; direction = d; session = s; mw = mw }
+
+  -- where no right takes the MW
+  module _ (n : rightFor b model h d s ≡ Nothing) where
+    new-right : withRight model h d s mw (bookOf b .rights) ≡ bookOf b .rights ++ (new ∷ [])
+    unfolding withRight rightFor
+    new-right = go (eqb model 1) n
+      where
+        go : (t : Bool) → cond t Nothing (standingIn b h d s) ≡ Nothing → cond t (bookOf b .rights ++ (new ∷ [])) (addedRight h d s mw (bookOf b .rights)) ≡ bookOf b .rights ++ (new ∷ [])
+        go true e = refl
+        go false e = added-right h d s mw (bookOf b .rights) ∙ changed-new (isRightOf h d s) (raised mw) new (bookOf b .rights) (found-none b h d s e)
+
+    new-number : rightNumber model h d s (bookOf b .rights) ≡ length (bookOf b .rights)
+    unfolding rightNumber rightFor
+    new-number = go (eqb model 1) n
+      where
+        go : (t : Bool) → cond t Nothing (standingIn b h d s) ≡ Nothing → cond t (length (bookOf b .rights)) (rightFrom h d s (bookOf b .rights)) ≡ length (bookOf b .rights)
+        go true e = refl
+        go false e =
+            let l = found-none b h d s e in
+            let q = place-le (isRightOf h d s) (bookOf b .rights) in
+            right-from h d s (bookOf b .rights) ∙ omega arith
+
+    pub opened-books : (b′ : List ℕ) (i : ℕ) → counted b RIGHTS rightLimit < rightLimit → Opened b h d s mw i b′ → Booked b model h d s mw i b′
+    opened-books b′ i l o =
+        let m : i < rightLimit = rw (o .number-is) l in
         record {
-          count = length-five (RIGHTS + 4 + i * 8) mw b ∙ u;
-          number-is = rw t (f .0 ∙ sym (right-from h d s (bookOf b .rights)));
+          count = ap length (o .cells-are) ∙ length-row RIGHTS i (h ∷ d ∷ s ∷ mw) b ∙ o .cells .count;
+          number-is = o .number-is ∙ sym (right-count b) ∙ sym new-number;
           book-is =
-              right-raised b i mw below u size (f .1)
-              ∙ rw t
-              (ap (λ (rs : List Right). withRights (bookOf b) rs)
-              (sym (added-right h d s mw (bookOf b .rights)
-              ∙ changed-there (isRightOf h d s) (raised mw) _ (record { holder = 0; direction = 0; session = 0; mw = 0 ∷ 0 ∷ 0 ∷ 0 ∷ 0 ∷ [] }) (bookOf b .rights) (rw (← f .0) l)
-              ∙ rw (← f .0) (ap (λ (x : Right). set (bookOf b .rights) i (raised mw x)) (right-at b i (f .1))))));
+              ap bookOf (o .cells-are)
+              ∙ right-more b i h d s mw (o .bytes) m (o .cells .count) (o .mw-five) (sym (o .number-is))
+              ∙ ap (λ (rs : List Right). withRights (bookOf b) rs) (sym new-right);
         }
 
--- ---- a right's row, cell by cell
+  -- where right i takes them
+  module _ (i : ℕ) (e : rightFor b model h d s ≡ At i) where
+    pub raised-books : length b ≡ CELLS → length mw ≡ 5 → Booked b model h d s mw i (addedFive (RIGHTS + 4 + i * 8) mw b)
+    unfolding withRight rightNumber
+    raised-books u size =
+        let w = stands b model h d s i e in
+        let p = found-at b h d s i (w .1) .0 in
+        let q = below b model h d s i e in
+        let l : i < length (bookOf b .rights) = rw (right-count b) q in
+        record {
+          count = length-five (RIGHTS + 4 + i * 8) mw b ∙ u;
+          number-is = rw (w .0) (p ∙ sym (right-from h d s (bookOf b .rights)));
+          book-is =
+              right-raised b i mw (omega arith) u size q
+              ∙ rw (w .0)
+              (ap (λ (rs : List Right). withRights (bookOf b) rs)
+              (sym (added-right h d s mw (bookOf b .rights)
+              ∙ changed-there (isRightOf h d s) (raised mw) new (record { holder = 0; direction = 0; session = 0; mw = noMw }) (bookOf b .rights) (rw (← p) l)
+              ∙ rw (← p) (ap (λ (x : Right). set (bookOf b .rights) i (raised mw x)) (right-at b i q)))));
+        }
 
-pub right-row : (b : List ℕ) (i : ℕ) → let at : ℕ = RIGHTS + 1 + i * 8 in
-    rightAt b i
-    ≡ record {
-      holder = cell b at % 256;
-      direction = cell b (at + 1) % 256;
-      session = cell b (at + 2) % 256;
-      mw = cell b (at + 3) ∷ cell b (at + 4) ∷ cell b (at + 5) ∷ cell b (at + 6) ∷ cell b (at + 7) ∷ [];
+-- ---- the read of a right
+
+pub right-read : (b : List ℕ) (i h d : ℕ) (s : Session) (a : Answer) → h ≡ rightAt b i .holder → d ≡ rightAt b i .direction → s .0 ≡ rightAt b i .session
+    → let at : ℕ = RIGHTS + 4 + i * 8 in
+    record {
+      answer = a;
+      holder = h;
+      direction = d;
+      session = s;
+      mw = cell b at ∷ cell b (at + 1) ∷ cell b (at + 2) ∷ cell b (at + 3) ∷ cell b (at + 4) ∷ [];
     }
+    ≡ readOf a (rightAt b i)
 unfolding rightAt part cellFrom rows
-right-row b i =
-    let at : ℕ = RIGHTS + 1 + i * 8 in
-    let two : RIGHTS + 2 + i * 8 ≡ at + 1 = omega arith in
-    let three : RIGHTS + 3 + i * 8 ≡ at + 2 = omega arith in
-    let k0 : RIGHTS + 4 + i * 8 + 0 ≡ at + 3 = omega arith in
-    let k1 : RIGHTS + 4 + i * 8 + 1 ≡ at + 4 = omega arith in
-    let k2 : RIGHTS + 4 + i * 8 + 2 ≡ at + 5 = omega arith in
-    let k3 : RIGHTS + 4 + i * 8 + 3 ≡ at + 6 = omega arith in
-    let k4 : RIGHTS + 4 + i * 8 + 4 ≡ at + 7 = omega arith in
-    rw (two, three, k0, k1, k2, k3, k4)
-
--- models that are not the one-hour model are booked alike
-pub booked-alike : {b b′ : List ℕ} {model h d s : ℕ} {mw : List ℕ} {n : ℕ} → eqb model 1 ≡ false → Booked b 4 h d s mw n b′ → Booked b model h d s mw n b′
-unfolding withRight rightNumber
-booked-alike t k = record { count = k .count; number-is = k .number-is ∙ rw t; book-is = k .book-is ∙ rw t }
+right-read b i h d s a p q r = rw (p, q, ← r, add-zero (RIGHTS + 4 + i * 8))

@@ -13,16 +13,17 @@ use Rattle.rules.specs.Sessions.{sessionThere, firstHour, hoursIn, firstHourThe
 use Rattle.rules.specs.Bids.{shortage}
 use Rattle.rules.specs.Refusals.{order, firstOf}
 use Rattle.rules.specs.Reads.{rightReadRefuses, readRight}
-use Rattle.rules.specs.declared.Answer.the-variants.{Unknown}
+use Rattle.rules.specs.declared.Answer.the-variants.{Granted, Unknown}
 use Rattle.rules.proofs.Sessions.{hours-there}
+use Rattle.rules.specs.Book.{directionLimit, rightLimit}
 use Rattle.cells.specs.Layout.{RIGHTS}
-use Rattle.cells.specs.View.{counted, dayHoursIn, bookOf}
+use Rattle.cells.specs.View.{counted, dayHoursIn, rightAt, bookOf}
 use Rattle.cells.proofs.Views.{hours-few, hours-within, right-count, right-at}
 use Rattle.capacity.specs.Search.{Hours, shortageIn, found}
 use Rattle.capacity.specs.declared.Search.{Search}
 use Rattle.capacity.proofs.View.{shortage-view}
 use Rattle.answers.specs.Promises.{saidRight}
-use Rattle.bids.specs.Work.{Session-known, Searched, rightIn}
+use Rattle.bids.specs.Work.{Session-known, Searched, readOf}
 
 -- ---- the direction and the session
 
@@ -36,7 +37,7 @@ hours-some n model s h = go (eqb model 1) (leb s 1)
     go false false = omega arith
 
 -- the hours of a session that is there, from the first on
-pub session-hours : (n model d s first count : ℕ) → (23 ≤ n) × (n ≤ 25) → d < 24 → sessionThere n model s ≡ true
+pub session-hours : (n model d s first count : ℕ) → (23 ≤ n) × (n ≤ 25) → d < directionLimit → sessionThere n model s ≡ true
     → first ≡ firstHourThere n model s → count ≡ hoursIn n model s → Hours d first count
 unfolding firstHourThere
 session-hours n model d s first count w row t f c =
@@ -61,13 +62,13 @@ searched b n model d s first count mw r p size k f c e =
 
 -- ---- the read of a right
 
-pub right-unknown : (b : List ℕ) (r : ℕ) → counted b RIGHTS 512 ≤ r
+pub right-unknown : (b : List ℕ) (r : ℕ) → counted b RIGHTS rightLimit ≤ r
     → saidRight (record { answer = Unknown; holder = 0; direction = 0; session = record { 0 = 0 }; mw = noMw }) ≡ readRight (bookOf b) r
 unfolding readRight rightReadRefuses firstOf order
 right-unknown b r l =
     let m : length (bookOf b .rights) ≤ r = rw (right-count b) l in
     rw (le-leb (length (bookOf b .rights)) r m, List·getD-eq-default (bookOf b .rights) (record { holder = 0; direction = 0; session = 0; mw = noMw }) {n = r} m)
 
-pub right-known : (b : List ℕ) (r : ℕ) → r < counted b RIGHTS 512 → saidRight (rightIn b r) ≡ readRight (bookOf b) r
-unfolding readRight rightReadRefuses firstOf order rightIn
+pub right-known : (b : List ℕ) (r : ℕ) → r < counted b RIGHTS rightLimit → saidRight (readOf (Granted 0) (rightAt b r)) ≡ readRight (bookOf b) r
+unfolding readRight rightReadRefuses firstOf order
 right-known b r l = rw (lt-leb (length (bookOf b .rights)) r (rw (right-count b) l), right-at b r l)

@@ -1,26 +1,40 @@
 // Bids, and the read of a right. A bid is checked whole before anything is stored.
 ghost use mathlib.Core.Path.{_≡_};
-ghost use mathlib.Core.Bool.{true, false, _||_, _&&_, not};
+ghost use mathlib.Core.Bool.{_||_, not};
 ghost use Prim.Native.Nat.{_+_, _*_, _<_, _≤_};
-ghost use lib.Dec.{leb, ltb, eqb};
-ghost use lib.ListN.{length, drop};
+ghost use lib.Dec.{ltb};
+ghost use lib.ListN.{drop};
 ghost use Rattle.rules.specs.Basics.{bit, anyAbove};
 ghost use Rattle.rules.specs.Sessions.{hoursIn};
 ghost use Rattle.rules.specs.Windows.{latest, bidOutside};
+ghost use Rattle.rules.specs.Book.{directionLimit, partyLimit, rightLimit};
 ghost use Rattle.rules.specs.Calls.{Bid};
-ghost use Rattle.rules.specs.Bids.{isRightOf, rightTaken};
-ghost use Rattle.rules.specs.Refusals.{partyUnknown, directionUnknown, sessionUnknown, number};
+ghost use Rattle.rules.specs.Bids.{isRightOf};
+ghost use Rattle.rules.specs.Refusals.{partyUnknown, directionUnknown, sessionUnknown};
+ghost use Rattle.rules.specs.declared.Answer.the-variants.{Granted};
 ghost use Rattle.cells.specs.Layout.{PARTIES, RIGHTS};
 ghost use Rattle.cells.specs.View.{cell, bookOf, counted, directionAt, rightAt};
-ghost use Rattle.answers.specs.Promises.{Judged, Answers, ReadsRight};
-ghost use Rattle.bids.specs.Work.{standingIn, Session-known, Searched, Opened, Booked, Placed, rightIn};
+ghost use Rattle.answers.specs.Promises.{Answers, ReadsRight};
+ghost use Rattle.bids.specs.Work.{standingIn, rightFor, entryIn, Enters, Cleared, JudgedBid, Session-known, Searched, Opened, Booked, Placed, readOf};
 use answers::RightRead;
-use answers::Verdict;
 use capacity::Search;
 use cells::Book;
 use cells::Found;
 use rules::Answer;
 use rules::Session;
+
+// What a bid finds in the table of rights: no room for it, room for a right more, or in a full table the right that takes its MW.
+enum Entry {
+    Full,
+    Room,
+    Standing(u32),
+}
+
+// What the tests of a bid find: nothing against it, with its entry, or the refusal.
+enum BidVerdict {
+    Clear(Entry),
+    No(Answer),
+}
 
 // ---- tests
 
@@ -63,7 +77,7 @@ fn wrong_hours(book: &Book, model: u32, session: Session, mw: [u16; 5]) -> bool
 }
 
 fn no_access(book: &Book, party: u8, direction: u8) -> bool
-    requires { ⌜ (party < 64) × (direction < 24) ⌝ }
+    requires { ⌜ (party < partyLimit) × (direction < directionLimit) ⌝ }
     ensures { λ r. ⌜ r ≡ not (bit (cell (now (book .entry)) (PARTIES + 17 + party * 17)) (directionAt (now (book .entry)) direction .out) || bit (cell (now (book .entry)) (PARTIES + 17 + party * 17)) (directionAt (now (book .entry)) direction .into)) ⌝ }
 {
     let map = book[cells::PARTIES + 17 + party as usize * 17];
@@ -77,47 +91,54 @@ fn no_access(book: &Book, party: u8, direction: u8) -> bool
 
 // ---- the standing right
 
-fn same_right(book: &Book, i: u32, holder: u8, direction: u8, session: u8) -> bool
-    requires { ⌜ i < 512 ⌝ }
-    ensures { λ r. ⌜ r ≡ isRightOf holder direction session (rightAt (now (book .entry)) i) ⌝ }
+fn same_right(book: &Book, right: u16, holder: u8, direction: u8, session: Session) -> bool
+    requires { ⌜ right < rightLimit ⌝ }
+    ensures { λ r. ⌜ r ≡ isRightOf holder direction (session .0) (rightAt (now (book .entry)) right) ⌝ }
 {
-    let at = cells::RIGHTS + 1 + i as usize * 8;
-    if book[at] % 256 != holder as u32 {
+    if cells::right_holder(book, right) != holder {
         return false;
     }
-    if book[at + 1] % 256 != direction as u32 {
+    if cells::right_direction(book, right) != direction {
         return false;
     }
-    book[at + 2] % 256 == session as u32
+    let stands = cells::right_session(book, right);
+    stands.0 == session.0
 }
 
 // The first right of a holder, direction and session.
-fn standing(book: &Book, holder: u8, direction: u8, session: u8) -> Found
-    ensures { λ r. ⌜ r ≡ standingIn (now (book .entry)) holder direction session ⌝ }
+fn standing(book: &Book, holder: u8, direction: u8, session: Session) -> Found
+    ensures { λ r. ⌜ r ≡ standingIn (now (book .entry)) holder direction (session .0) ⌝ }
 {
-    let count = cells::count_in(book, cells::RIGHTS, 512);
+    let count = cells::count_in(book, cells::RIGHTS, cells::RIGHT_LIMIT);
     for i in 0..count {
-        if same_right(book, i, holder, direction, session) {
+        if same_right(book, i as u16, holder, direction, session) {
             return Found::At(i);
         }
     }
     Found::Nothing
 }
 
-// A new right is needed, and the table is full.
-fn rights_full(book: &Book, model: u32, holder: u8, direction: u8, session: u8) -> bool
-    ensures { λ r. ⌜ r ≡ (leb 512 (length (bookOf (now (book .entry)) .rights)) && (eqb model 1 || not (rightTaken holder direction session (bookOf (now (book .entry)) .rights)))) ⌝ }
+// The right that takes the MW of a bid: none in the one-hour model.
+fn right_for(book: &Book, model: u32, holder: u8, direction: u8, session: Session) -> Found
+    ensures { λ r. ⌜ r ≡ rightFor (now (book .entry)) model holder direction (session .0) ⌝ }
 {
-    if cells::count_in(book, cells::RIGHTS, 512) < 512 {
-        return false;
-    }
     if model == 1 {
-        return true;
+        return Found::Nothing;
     }
-    let Found::At(_) = standing(book, holder, direction, session) else {
-        return true;
+    standing(book, holder, direction, session)
+}
+
+// Only a full table is searched: with room the bid may still be short.
+fn entry_of(book: &Book, model: u32, holder: u8, direction: u8, session: Session) -> Entry
+    ensures { λ r. ⌜ r ≡ entryIn (now (book .entry)) model holder direction (session .0) ⌝ }
+{
+    if cells::count_in(book, cells::RIGHTS, cells::RIGHT_LIMIT) < cells::RIGHT_LIMIT {
+        return Entry::Room;
+    }
+    let Found::At(i) = right_for(book, model, holder, direction, session) else {
+        return Entry::Full;
     };
-    false
+    Entry::Standing(i)
 }
 
 // ---- the verdict
@@ -140,51 +161,52 @@ fn bid_verdict(
     direction: u8,
     session: Session,
     mw: [u16; 5],
-) -> Verdict
-    ensures { λ r. ⌜ Judged (bookOf (now (book .entry))) (Bid time party direction (session .0) mw) r ⌝ }
+) -> BidVerdict
+    ensures { λ r. ⌜ JudgedBid (now (book .entry)) time party direction (session .0) mw r ⌝ }
 {
     if bid_field(time, mw) {
-        return Verdict::No(Answer::Field);
+        return BidVerdict::No(Answer::Field);
     }
     if answers::is_early(book, time) {
-        return Verdict::No(Answer::Clock);
+        return BidVerdict::No(Answer::Clock);
     }
     if bid_unknown(book, party, direction, session) {
-        return Verdict::No(Answer::Unknown);
+        return BidVerdict::No(Answer::Unknown);
     }
     let model = cells::model_of(book, direction);
     if outside(book, model, session, time) {
-        return Verdict::No(Answer::Gate);
+        return BidVerdict::No(Answer::Gate);
     }
     if wrong_hours(book, model, session, mw) {
-        return Verdict::No(Answer::Hours);
+        return BidVerdict::No(Answer::Hours);
     }
     if no_access(book, party, direction) {
-        return Verdict::No(Answer::Access);
+        return BidVerdict::No(Answer::Access);
     }
-    if rights_full(book, model, party, direction, session.0) {
-        return Verdict::No(Answer::Full);
+    let entry = entry_of(book, model, party, direction, session);
+    if let Entry::Full = entry {
+        return BidVerdict::No(Answer::Full);
     }
     let search = bid_shortage(book, model, direction, session, mw);
     match search {
-        Search::Short(hour, limit) => Verdict::No(Answer::Short(hour, limit)),
-        Search::Enough => Verdict::Clear,
+        Search::Short(hour, capacity) => BidVerdict::No(Answer::Short(hour, capacity)),
+        Search::Enough => BidVerdict::Clear(entry),
     }
 }
 
 // ---- a granted bid
 
 // A new right with the MW of a bid: its number.
-fn open_right(book: &mut Book, holder: u8, direction: u8, session: u8, mw: [u16; 5]) -> u32
-    requires { ⌜ counted (now book) RIGHTS 512 < 512 ⌝ }
-    ensures { λ r. ⌜ Opened (now (book .entry)) holder direction session mw r (now (book .exit)) ⌝ }
+fn open_right(book: &mut Book, holder: u8, direction: u8, session: Session, mw: [u16; 5]) -> u32
+    requires { ⌜ counted (now book) RIGHTS rightLimit < rightLimit ⌝ }
+    ensures { λ r. ⌜ Opened (now (book .entry)) holder direction (session .0) mw r (now (book .exit)) ⌝ }
 {
     let cells = cells::cells_in(book);
-    let count = cells::count_in(book, cells::RIGHTS, 512);
+    let count = cells::count_in(book, cells::RIGHTS, cells::RIGHT_LIMIT);
     let row = [
         holder as u32,
         direction as u32,
-        session as u32,
+        session.0 as u32,
         mw[0] as u32,
         mw[1] as u32,
         mw[2] as u32,
@@ -195,35 +217,43 @@ fn open_right(book: &mut Book, holder: u8, direction: u8, session: u8, mw: [u16;
     count
 }
 
-// The standing right takes the MW of a bid, or else a new right does.
-fn take_right(book: &mut Book, holder: u8, direction: u8, session: u8, mw: [u16; 5]) -> u32
-    requires { ⌜ (leb 512 (length (bookOf (now book) .rights)) && not (rightTaken holder direction session (bookOf (now book) .rights))) ≡ false ⌝ }
-    ensures { λ r. ⌜ Booked (now (book .entry)) 4 holder direction session mw r (now (book .exit)) ⌝ }
+// The right that takes the MW: as the verdict found it, or searched now where the table has room.
+fn right_by_entry(
+    book: &Book,
+    entry: Entry,
+    model: u32,
+    holder: u8,
+    direction: u8,
+    session: Session,
+) -> Found
+    requires { ⌜ Enters (now book) model holder direction (session .0) entry ⌝ }
+    ensures { λ r. ⌜ r ≡ rightFor (now (book .entry)) model holder direction (session .0) ⌝ }
+{
+    let Entry::Standing(i) = entry else {
+        return right_for(book, model, holder, direction, session);
+    };
+    Found::At(i)
+}
+
+// The right of a granted bid: the standing one takes its MW, or else a new one does.
+fn book_right(
+    book: &mut Book,
+    entry: Entry,
+    model: u32,
+    holder: u8,
+    direction: u8,
+    session: Session,
+    mw: [u16; 5],
+) -> u32
+    requires { ⌜ Enters (now book) model holder direction (session .0) entry ⌝ }
+    ensures { λ r. ⌜ Booked (now (book .entry)) model holder direction (session .0) mw r (now (book .exit)) ⌝ }
 {
     let cells = cells::cells_in(book);
-    let Found::At(i) = standing(book, holder, direction, session) else {
+    let Found::At(i) = right_by_entry(book, entry, model, holder, direction, session) else {
         return open_right(book, holder, direction, session, mw);
     };
     capacity::add_five(book, cells::RIGHTS + 4 + i as usize * 8, mw);
     i
-}
-
-// The right of a granted bid, by the model of its direction: its number.
-fn book_right(
-    book: &mut Book,
-    model: u32,
-    holder: u8,
-    direction: u8,
-    session: u8,
-    mw: [u16; 5],
-) -> u32
-    requires { ⌜ (leb 512 (length (bookOf (now book) .rights)) && (eqb model 1 || not (rightTaken holder direction session (bookOf (now book) .rights)))) ≡ false ⌝ }
-    ensures { λ r. ⌜ Booked (now (book .entry)) model holder direction session mw r (now (book .exit)) ⌝ }
-{
-    if model == 1 {
-        return open_right(book, holder, direction, session, mw);
-    }
-    take_right(book, holder, direction, session, mw)
 }
 
 // The stores of a granted bid: the number of its right.
@@ -234,8 +264,9 @@ fn place_bid(
     direction: u8,
     session: Session,
     mw: [u16; 5],
+    entry: Entry,
 ) -> u32
-    requires { ⌜ number (bookOf (now book)) (Bid time party direction (session .0) mw) ≡ 0 ⌝ }
+    requires { ⌜ Cleared (now book) time party direction (session .0) mw entry ⌝ }
     ensures { λ r. ⌜ Placed (now (book .entry)) time party direction (session .0) mw r (now (book .exit)) ⌝ }
 {
     let cells = cells::cells_in(book);
@@ -244,7 +275,7 @@ fn place_bid(
     let first = day::first_hour(hours, model, session);
     let count = day::hours_in(hours, model, session);
     capacity::grant_hours(book, direction, first, count, mw);
-    let number = book_right(book, model, party, direction, session.0, mw);
+    let number = book_right(book, entry, model, party, direction, session, mw);
     cells::set_clock(book, time);
     number
 }
@@ -261,8 +292,10 @@ pub fn bid(
 {
     let verdict = bid_verdict(book, time, party, direction, session, mw);
     match verdict {
-        Verdict::No(answer) => answer,
-        Verdict::Clear => Answer::Granted(place_bid(book, time, party, direction, session, mw)),
+        BidVerdict::No(answer) => answer,
+        BidVerdict::Clear(entry) => {
+            Answer::Granted(place_bid(book, time, party, direction, session, mw, entry))
+        }
     }
 }
 
@@ -270,21 +303,21 @@ pub fn bid(
 
 // A right that is there.
 fn right_there(book: &Book, right: u16) -> RightRead
-    requires { ⌜ right < 512 ⌝ }
-    ensures { λ r. ⌜ r ≡ rightIn (now (book .entry)) right ⌝ }
+    requires { ⌜ right < rightLimit ⌝ }
+    ensures { λ r. ⌜ r ≡ readOf (Granted 0) (rightAt (now (book .entry)) right) ⌝ }
 {
-    let at = cells::RIGHTS + 1 + right as usize * 8;
+    let at = cells::RIGHTS + 4 + right as usize * 8;
     RightRead {
         answer: Answer::Granted(0),
-        holder: (book[at] % 256) as u8,
-        direction: (book[at + 1] % 256) as u8,
-        session: Session((book[at + 2] % 256) as u8),
+        holder: cells::right_holder(book, right),
+        direction: cells::right_direction(book, right),
+        session: cells::right_session(book, right),
         mw: [
+            book[at],
+            book[at + 1],
+            book[at + 2],
             book[at + 3],
             book[at + 4],
-            book[at + 5],
-            book[at + 6],
-            book[at + 7],
         ],
     }
 }
@@ -292,7 +325,7 @@ fn right_there(book: &Book, right: u16) -> RightRead
 pub fn right_at(book: &Book, right: u16) -> RightRead
     ensures { λ r. ⌜ ReadsRight (now (book .entry)) right r ⌝ }
 {
-    if cells::count_in(book, cells::RIGHTS, 512) <= right as u32 {
+    if cells::count_in(book, cells::RIGHTS, cells::RIGHT_LIMIT) <= right as u32 {
         return RightRead {
             answer: Answer::Unknown,
             holder: 0,

@@ -11,14 +11,14 @@ use borrow.Author.Tests.{le-ltb}
 use lib.Dec.{ltb}
 use lib.ListN.{getD, length}
 use Rattle.rules.specs.Basics.{bit}
-use Rattle.rules.specs.Book.{leftAt, ofProfile}
+use Rattle.rules.specs.Book.{leftAt, ofProfile, profileLimit}
 use Rattle.rules.specs.Bids.{Shortage, nothingShort, shortAt, orElse, profileShort, shortProfile, shortHour, shortage}
 use Rattle.cells.specs.Layout.{PROFILES}
 use Rattle.cells.specs.Loops.{each, rows}
 use Rattle.cells.specs.View.{cell, cellFrom, part, counted, profilesIn, bookOf}
 use Rattle.capacity.specs.declared.Search.{Search}
 use Rattle.capacity.specs.declared.Search.the-variants.{Short, Enough}
-use Rattle.rules.specs.declared.Limit.the-variants.{Direction, Profile}
+use Rattle.rules.specs.declared.CapacityOf.the-variants.{Direction, Profile}
 use Rattle.capacity.specs.Search.{profileShortIn, tryProfile, tryHour, shortageIn, found}
 
 and-false : (t : Bool) → (t && false) ≡ false
@@ -40,9 +40,9 @@ module _ (b : List ℕ) (d : ℕ) where
       go false ih = rw add-one ih
 
   profiles-view : (H m : ℕ) (rest : Search)
-      → found (each (tryProfile b d H m) (counted b PROFILES 8) 0 rest) ≡ orElse (shortProfile (bookOf b) d H m 0 (bookOf b .profiles)) (found rest)
+      → found (each (tryProfile b d H m) (counted b PROFILES profileLimit) 0 rest) ≡ orElse (shortProfile (bookOf b) d H m 0 (bookOf b .profiles)) (found rest)
   unfolding bookOf profilesIn part
-  profiles-view H m rest = profiles-from H m (counted b PROFILES 8) 0 rest
+  profiles-view H m rest = profiles-from H m (counted b PROFILES profileLimit) 0 rest
 
   -- no MW, no shortage
   none-short : (hour : ℕ) → ltb (leftAt (bookOf b) d hour) 0 ≡ false
@@ -78,7 +78,7 @@ module _ (b : List ℕ) (d : ℕ) where
       next i j = omega arith
 
       go : (t : Bool) → found (each (tryHour b d first mw) n (k + 1) Enough) ≡ shortage (bookOf b) d (suc (first + k)) ms
-          → found (cond t (Short (record { 0 = first + k }) Direction) (each (tryProfile b d (first + k) (getD mw k 0)) (counted b PROFILES 8) 0 (each (tryHour b d first mw) n (k + 1) Enough)))
+          → found (cond t (Short (record { 0 = first + k }) Direction) (each (tryProfile b d (first + k) (getD mw k 0)) (counted b PROFILES profileLimit) 0 (each (tryHour b d first mw) n (k + 1) Enough)))
           ≡ orElse (cond t (shortAt (first + k) 0) (shortProfile (bookOf b) d (first + k) (getD mw k 0) 0 (bookOf b .profiles))) (shortage (bookOf b) d (suc (first + k)) ms)
       go true ih = refl
       go false ih =

@@ -6,18 +6,18 @@ use mathlib.Core.List.{List}
 use lib.Dec.{ltb}
 use lib.ListN.{getD}
 use Rattle.rules.specs.Basics.{bit}
-use Rattle.rules.specs.Book.{leftAt, ofProfile}
+use Rattle.rules.specs.Book.{leftAt, ofProfile, directionLimit, profileLimit}
 use Rattle.rules.specs.Bids.{Shortage, nothingShort, shortAt}
 use Rattle.cells.specs.Layout.{PROFILES}
 use Rattle.cells.specs.Loops.{each}
 use Rattle.cells.specs.View.{cell, counted, bookOf}
-use Rattle.rules.specs.declared.Limit.the-variants.{Direction, Profile}
+use Rattle.rules.specs.declared.CapacityOf.the-variants.{Direction, Profile}
 use Rattle.capacity.specs.declared.Search.{Search}
 use Rattle.capacity.specs.declared.Search.the-variants.{Short, Enough}
 
 -- n hours of the day from hour h on, for a direction d
 pub record Hours (d h n : ℕ) : Type 0 where
-  pub direction : d < 24
+  pub direction : d < directionLimit
   pub few : n ≤ 5
   pub first : 1 ≤ h
   pub last : h + n ≤ 26
@@ -32,7 +32,7 @@ unfoldable pub tryHour : List ℕ → ℕ → ℕ → List ℕ → ℕ → Searc
 tryHour b d first mw k rest =
     cond (ltb (leftAt (bookOf b) d (first + k)) (getD mw k 0))
     (Short (record { 0 = first + k }) Direction)
-    (each (tryProfile b d (first + k) (getD mw k 0)) (counted b PROFILES 8) 0 rest)
+    (each (tryProfile b d (first + k) (getD mw k 0)) (counted b PROFILES profileLimit) 0 rest)
 
 unfoldable pub shortageIn : List ℕ → ℕ → ℕ → ℕ → List ℕ → Search
 shortageIn b d first n mw = each (tryHour b d first mw) n 0 Enough

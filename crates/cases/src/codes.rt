@@ -1,8 +1,8 @@
 // Codes of the published lists: those of parties are accepted, those of areas and misprints are refused.
-use printing::Tally;
-use printing::counted;
-use printing::text;
-use printing::word;
+use cases_printing::Tally;
+use cases_printing::counted;
+use cases_printing::text;
+use cases_printing::word;
 ghost use Prim.Native.Nat.{_+_, _≤_};
 ghost use lib.ListN.{length};
 

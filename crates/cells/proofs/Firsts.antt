@@ -89,7 +89,7 @@ module _ {A : Type 0} (t : A → Bool) where
       abbrev first : ℕ
       first = placeOf (rows f n 0)
 
-      found-is : firstRow t f n ≡ cond (ltb first n) (At first) Nothing
+      pub found-is : firstRow t f n ≡ cond (ltb first n) (At first) Nothing
       unfolding firstRow
       found-is = search-is n 0 ∙ rw (zero-add first)
 

@@ -13,25 +13,25 @@ use lib.Dec.{eqb}
 use lib.ListN.{getD, set, length, length-set, List·getD-eq-default}
 use lib.Seq.{getD-set-same, getD-set-other, ext-getD}
 use Rattle.rules.specs.Basics.{bit, mwAt}
-use Rattle.rules.specs.Book.{place, leftAt, holds}
+use Rattle.rules.specs.Book.{place, leftAt, holds, directionLimit, profileLimit}
 use Rattle.rules.specs.Bids.{share, withBid, isShort, shortage}
 use Rattle.rules.proofs.Shortages.{bid-fits}
 use Rattle.cells.specs.Layout.{CELLS, PROFILES, OFFERED, GRANTED, MATCHED}
-use Rattle.cells.specs.Loops.{run}
+use Rattle.cells.specs.Loops.{repeated}
 use Rattle.cells.specs.View.{Cells, cell, part, counted, profilesIn, grantedIn, bookOf}
-use Rattle.cells.specs.Bids.{added, grantedProfile, grantedHour, grantedNext, grantedHours, withBidMw}
+use Rattle.cells.specs.Bids.{addedCell, grantedProfile, grantedHour, grantedNext, grantedHours, withBidMw}
 use Rattle.cells.proofs.Regions.{only-granted}
 use Rattle.cells.specs.Updates.{withGranted}
 use Rattle.cells.proofs.Stores.{part-at, part-length}
 use Rattle.cells.proofs.Views.{left-at}
-use Rattle.cells.proofs.Runs.{run-same, run-once, run-keeps}
+use Rattle.cells.proofs.Repeats.{repeated-same, repeated-once, repeated-keeps}
 
 -- what the stores keep: the maps, the count of cells, their range
 record Keeps (maps : List ℕ) (n : ℕ) (y : List ℕ) : Type 0 where
   map-at : (p : ℕ) → p < n → cell y ((PROFILES + 1) + p) ≡ getD maps p 0
   cells : Cells y
 
-module _ (maps : List ℕ) (n d i : ℕ) (few : n ≤ 8) (size : length maps ≡ n) (dir : d < 24) (in-table : i < 800) where
+module _ (maps : List ℕ) (n d i : ℕ) (few : n ≤ profileLimit) (size : length maps ≡ n) (dir : d < directionLimit) (in-table : i < 800) where
   abbrev l : ℕ
   l = i / 25
 
@@ -39,17 +39,17 @@ module _ (maps : List ℕ) (n d i : ℕ) (few : n ≤ 8) (size : length maps ≡
   h = 1 + i % 25
 
   -- a cell that was raised
-  raised-here : (y : List ℕ) (mw : ℕ) → Keeps maps n y → cell (added (GRANTED + i) mw y) (GRANTED + i) ≡ (cell y (GRANTED + i) + mw) % 2 ^ 32
+  raised-here : (y : List ℕ) (mw : ℕ) → Keeps maps n y → cell (addedCell (GRANTED + i) mw y) (GRANTED + i) ≡ (cell y (GRANTED + i) + mw) % 2 ^ 32
   raised-here y mw k = getD-set-same y (GRANTED + i) _ 0 (omega (arith, k .cells .count))
 
-  raised-other : (y : List ℕ) (mw at : ℕ) → at ≢ GRANTED + i → cell (added at mw y) (GRANTED + i) ≡ cell y (GRANTED + i)
+  raised-other : (y : List ℕ) (mw at : ℕ) → at ≢ GRANTED + i → cell (addedCell at mw y) (GRANTED + i) ≡ cell y (GRANTED + i)
   raised-other y mw at e = getD-set-other y at (GRANTED + i) _ 0 (λ q. e (sym q))
 
   profile-other : (y : List ℕ) (H mw p : ℕ) → GRANTED + place (24 + p) H ≢ GRANTED + i → cell (grantedProfile d H mw p y) (GRANTED + i) ≡ cell y (GRANTED + i)
   unfolding grantedProfile
   profile-other y H mw p e = go (bit (cell y ((PROFILES + 1) + p)) d)
     where
-      go : (t : Bool) → cell (cond t (added (GRANTED + place (24 + p) H) mw y) y) (GRANTED + i) ≡ cell y (GRANTED + i)
+      go : (t : Bool) → cell (cond t (addedCell (GRANTED + place (24 + p) H) mw y) y) (GRANTED + i) ≡ cell y (GRANTED + i)
       go true = raised-other y mw (GRANTED + place (24 + p) H) e
       go false = refl
 
@@ -57,7 +57,7 @@ module _ (maps : List ℕ) (n d i : ℕ) (few : n ≤ 8) (size : length maps ≡
   hour-miss : (y : List ℕ) (H mw : ℕ) → 1 ≤ H → H ≤ 25 → H ≢ h → cell (grantedHour n d H mw y) (GRANTED + i) ≡ cell y (GRANTED + i)
   unfolding grantedHour
   hour-miss y H mw f g e =
-      run-same (λ (x : List ℕ). cell x (GRANTED + i)) (grantedProfile d H mw) n 0 (added (GRANTED + place d H) mw y)
+      repeated-same (λ (x : List ℕ). cell x (GRANTED + i)) (grantedProfile d H mw) n 0 (addedCell (GRANTED + place d H) mw y)
       (λ p a u x. profile-other x H mw p (λ q. e (omega arith)))
       ∙ raised-other y mw (GRANTED + place d H) (λ q. e (omega arith))
 
@@ -74,25 +74,25 @@ module _ (maps : List ℕ) (n d i : ℕ) (few : n ≤ 8) (size : length maps ≡
       go j u (yes e) = rw (e, getD-set-same y at v 0 (omega (arith, k .cells .count))) w
       go j u (no e) = rw (getD-set-other y at j v 0 e) (k .cells .each j u)
 
-  keeps-added : (y : List ℕ) (at mw : ℕ) → GRANTED ≤ at → Keeps maps n y → Keeps maps n (added at mw y)
+  keeps-added : (y : List ℕ) (at mw : ℕ) → GRANTED ≤ at → Keeps maps n y → Keeps maps n (addedCell at mw y)
   keeps-added y at mw a k = keeps-set y at ((cell y at + mw) % 2 ^ 32) a (omega arith) k
 
   keeps-profile : (H mw p : ℕ) (y : List ℕ) → Keeps maps n y → Keeps maps n (grantedProfile d H mw p y)
   unfolding grantedProfile
   keeps-profile H mw p y k = go (bit (cell y ((PROFILES + 1) + p)) d)
     where
-      go : (t : Bool) → Keeps maps n (cond t (added (GRANTED + place (24 + p) H) mw y) y)
+      go : (t : Bool) → Keeps maps n (cond t (addedCell (GRANTED + place (24 + p) H) mw y) y)
       go true = keeps-added y (GRANTED + place (24 + p) H) mw (omega arith) k
       go false = k
 
   -- ---- the hour itself
 
-  -- a limit of the profiles
+  -- a row of the profiles
   profile-hit : (y : List ℕ) (mw : ℕ) → 24 ≤ l → l - 24 < n → Keeps maps n y
-      → cell (run (grantedProfile d h mw) n 0 y) (GRANTED + i) ≡ (cell y (GRANTED + i) + cond (bit (getD maps (l - 24) 0) d) mw 0) % 2 ^ 32
+      → cell (repeated (grantedProfile d h mw) n 0 y) (GRANTED + i) ≡ (cell y (GRANTED + i) + cond (bit (getD maps (l - 24) 0) d) mw 0) % 2 ^ 32
   unfolding grantedProfile
   profile-hit y mw a u k =
-      run-once (λ (x : List ℕ). cell x (GRANTED + i)) (grantedProfile d h mw) (Keeps maps n) (λ (v : ℕ). (v + cond (bit (getD maps (l - 24) 0) d) mw 0) % 2 ^ 32) (l - 24) n 0 y
+      repeated-once (λ (x : List ℕ). cell x (GRANTED + i)) (grantedProfile d h mw) (Keeps maps n) (λ (v : ℕ). (v + cond (bit (getD maps (l - 24) 0) d) mw 0) % 2 ^ 32) (l - 24) n 0 y
       (λ p x. keeps-profile h mw p x)
       (λ x q. turn x q (bit (getD maps (l - 24) 0) d) refl)
       (λ p b c e x. profile-other x h mw p (λ q. e (omega arith)))
@@ -106,10 +106,10 @@ module _ (maps : List ℕ) (n d i : ℕ) (few : n ≤ 8) (size : length maps ≡
       turn x q true e = rw (q .map-at (l - 24) u, e, at-i) (raised-here x mw q)
       turn x q false e = rw (q .map-at (l - 24) u, e) (let v = q .cells .each (GRANTED + i) (omega arith) in omega arith)
 
-  -- no profile is that limit
-  profile-miss : (y : List ℕ) (mw : ℕ) → ((p : ℕ) → p < n → 24 + p ≢ l) → cell (run (grantedProfile d h mw) n 0 y) (GRANTED + i) ≡ cell y (GRANTED + i)
+  -- no profile has that row
+  profile-miss : (y : List ℕ) (mw : ℕ) → ((p : ℕ) → p < n → 24 + p ≢ l) → cell (repeated (grantedProfile d h mw) n 0 y) (GRANTED + i) ≡ cell y (GRANTED + i)
   profile-miss y mw e =
-      run-same (λ (x : List ℕ). cell x (GRANTED + i)) (grantedProfile d h mw) n 0 y (λ p a u x. profile-other x h mw p (λ q. e p (omega arith) (omega arith)))
+      repeated-same (λ (x : List ℕ). cell x (GRANTED + i)) (grantedProfile d h mw) n 0 y (λ p a u x. profile-other x h mw p (λ q. e p (omega arith) (omega arith)))
 
   bit-none : bit 0 d ≡ false
   unfolding bit
@@ -123,13 +123,13 @@ module _ (maps : List ℕ) (n d i : ℕ) (few : n ≤ 8) (size : length maps ≡
   hour-hit y mw k = go (decLt l 24)
     where
       z : List ℕ
-      z = added (GRANTED + place d h) mw y
+      z = addedCell (GRANTED + place d h) mw y
 
       of-direction : l < 24 → Dec (l ≡ d) → cell z (GRANTED + i) ≡ (cell y (GRANTED + i) + cond (eqb l d) mw 0) % 2 ^ 32
       of-direction u (yes e) = let at-i : place d h ≡ i = omega arith in rw (eq-eqb l d e, at-i) (raised-here y mw k)
       of-direction u (no e) = rw (ne-eqb l d e) (raised-other y mw (GRANTED + place d h) (λ q. e (omega arith)) ∙ same-cell y k)
 
-      of-profile : 24 ≤ l → Dec (l - 24 < n) → cell (run (grantedProfile d h mw) n 0 z) (GRANTED + i) ≡ (cell y (GRANTED + i) + cond (bit (getD maps (l - 24) 0) d) mw 0) % 2 ^ 32
+      of-profile : 24 ≤ l → Dec (l - 24 < n) → cell (repeated (grantedProfile d h mw) n 0 z) (GRANTED + i) ≡ (cell y (GRANTED + i) + cond (bit (getD maps (l - 24) 0) d) mw 0) % 2 ^ 32
       of-profile a (yes u) =
           profile-hit z mw a u (keeps-added y (GRANTED + place d h) mw (omega arith) k)
           ∙ rw (raised-other y mw (GRANTED + place d h) (λ q. omega arith))
@@ -147,7 +147,7 @@ module _ (maps : List ℕ) (n d i : ℕ) (few : n ≤ 8) (size : length maps ≡
   keeps-hour : (H mw : ℕ) (y : List ℕ) → Keeps maps n y → Keeps maps n (grantedHour n d H mw y)
   unfolding grantedHour
   keeps-hour H mw y k =
-      run-keeps (Keeps maps n) (grantedProfile d H mw) n 0 (added (GRANTED + place d H) mw y) (keeps-profile H mw) (keeps-added y (GRANTED + place d H) mw (omega arith) k)
+      repeated-keeps (Keeps maps n) (grantedProfile d H mw) n 0 (addedCell (GRANTED + place d H) mw y) (keeps-profile H mw) (keeps-added y (GRANTED + place d H) mw (omega arith) k)
 
   module _ (first count : ℕ) (mw : List ℕ) (early : 1 ≤ first) (late : first + count ≤ 26) (rest : (k : ℕ) → count ≤ k → getD mw k 0 ≡ 0) where
     keeps-next : (j : ℕ) (y : List ℕ) → Keeps maps n y → Keeps maps n (grantedNext n d first mw j y)
@@ -171,12 +171,12 @@ module _ (maps : List ℕ) (n d i : ℕ) (few : n ≤ 8) (size : length maps ≡
     hours-at y k = go (decLe first h) (decLt h (first + count))
       where
         none : ((j : ℕ) → j < count → first + j ≢ h) → cell (grantedHours n d first count mw y) (GRANTED + i) ≡ cell y (GRANTED + i)
-        none e = run-same (λ (x : List ℕ). cell x (GRANTED + i)) (grantedNext n d first mw) count 0 y (λ j a u x. miss x j (omega arith) (e j (omega arith)))
+        none e = repeated-same (λ (x : List ℕ). cell x (GRANTED + i)) (grantedNext n d first mw) count 0 y (λ j a u x. miss x j (omega arith) (e j (omega arith)))
 
         go : Dec (first ≤ h) → Dec (h < first + count) → cell (grantedHours n d first count mw y) (GRANTED + i) ≡ (cell y (GRANTED + i) + share maps d first mw l h) % 2 ^ 32
         go (yes a) (yes u) =
             rw (le-leb first h a)
-            (run-once (λ (x : List ℕ). cell x (GRANTED + i)) (grantedNext n d first mw) (Keeps maps n) (λ (v : ℕ). (v + cond (holds maps d l) (getD mw (h - first) 0) 0) % 2 ^ 32) (h - first) count 0 y
+            (repeated-once (λ (x : List ℕ). cell x (GRANTED + i)) (grantedNext n d first mw) (Keeps maps n) (λ (v : ℕ). (v + cond (holds maps d l) (getD mw (h - first) 0) 0) % 2 ^ 32) (h - first) count 0 y
             keeps-next (λ x q. hit x a q) (λ j b c e x. miss x j (omega arith) (λ q. e (omega arith))) k (omega arith) (omega arith))
         go (yes a) (no u) =
             none (λ j b e. u (omega arith)) ∙ rw (le-leb first h a, rest (h - first) (omega arith), no-share (holds maps d l)) (same-cell y k)
@@ -199,9 +199,9 @@ with-bid-at maps d first mw k (x ∷ xs) (suc i) l =
     let e : suc k + i ≡ k + suc i = omega arith in
     rw (← e) (with-bid-at maps d first mw (suc k) xs i (omega arith))
 
-module _ (b : List ℕ) (d first count : ℕ) (mw : List ℕ) (c : Cells b) (dir : d < 24) (early : 1 ≤ first) (late : first + count ≤ 26) (rest : (k : ℕ) → count ≤ k → getD mw k 0 ≡ 0) where
+module _ (b : List ℕ) (d first count : ℕ) (mw : List ℕ) (c : Cells b) (dir : d < directionLimit) (early : 1 ≤ first) (late : first + count ≤ 26) (rest : (k : ℕ) → count ≤ k → getD mw k 0 ≡ 0) where
   abbrev n : ℕ
-  n = counted b PROFILES 8
+  n = counted b PROFILES profileLimit
 
   abbrev after : List ℕ
   after = grantedHours n d first count mw b
@@ -228,16 +228,16 @@ module _ (b : List ℕ) (d first count : ℕ) (mw : List ℕ) (c : Cells b) (dir
   unfolding grantedProfile
   profile-apart x H m p y e = go (bit (cell y ((PROFILES + 1) + p)) d)
     where
-      go : (t : Bool) → cell (cond t (added (GRANTED + place (24 + p) H) m y) y) x ≡ cell y x
+      go : (t : Bool) → cell (cond t (addedCell (GRANTED + place (24 + p) H) m y) y) x ≡ cell y x
       go true = getD-set-other y (GRANTED + place (24 + p) H) x _ 0 (λ q. e (sym q))
       go false = refl
 
   hours-apart : (x : ℕ) → ((at : ℕ) → GRANTED ≤ at → at < MATCHED → at ≢ x) → cell after x ≡ cell b x
   unfolding grantedHours grantedNext grantedHour
   hours-apart x e =
-      run-same (λ (y : List ℕ). cell y x) (grantedNext n d first mw) count 0 b
+      repeated-same (λ (y : List ℕ). cell y x) (grantedNext n d first mw) count 0 b
       (λ j a u y.
-      run-same (λ (z : List ℕ). cell z x) (grantedProfile d (first + j) (getD mw j 0)) n 0 (added (GRANTED + place d (first + j)) (getD mw j 0) y)
+      repeated-same (λ (z : List ℕ). cell z x) (grantedProfile d (first + j) (getD mw j 0)) n 0 (addedCell (GRANTED + place d (first + j)) (getD mw j 0) y)
       (λ p a′ u′ z. profile-apart x (first + j) (getD mw j 0) p z (e (GRANTED + place (24 + p) (first + j)) (omega arith) (omega arith)))
       ∙ getD-set-other y (GRANTED + place d (first + j)) x _ 0 (λ q. e (GRANTED + place d (first + j)) (omega arith) (omega arith) (sym q)))
 

@@ -2,7 +2,7 @@ pub mod Rows
 pub mod Turns
 pub mod Regions
 pub mod Stores
-pub mod Runs
+pub mod Repeats
 pub mod Grants
 pub mod Views
 pub mod Tables

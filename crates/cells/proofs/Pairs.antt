@@ -11,7 +11,7 @@ use borrow.Author.Tests.{eqb-true, eqb-false}
 use lib.Dec.{eqb}
 use lib.ListN.{getD, set, length, length-append, List·getD-append}
 use lib.Seq.{sets, getD-append-add}
-use Rattle.rules.specs.Book.{Pair}
+use Rattle.rules.specs.Book.{Pair, pairLimit}
 use Rattle.rules.specs.Nominations.{isPairOf, pairTaken, emptyPair, pairOf, withSide, withPair}
 use Rattle.cells.specs.Layout.{CELLS, PAIRS}
 use Rattle.cells.specs.View.{cell, part, counted, pairAt, pairsIn, bookOf}
@@ -61,7 +61,7 @@ pub pair-same : {r r′ o o′ i i′ : ℕ} {m m′ n n′ : List ℕ} → r �
     → _≡_ {A = Pair} (record { right = r; out = o; into = i; outMw = m; intoMw = n }) (record { right = r′; out = o′; into = i′; outMw = m′; intoMw = n′ })
 pair-same p q s t u = rw (p, q, s, t, u)
 
-module _ (b : List ℕ) (n r o i : ℕ) (outs ins : List ℕ) (l : n < 512) (u : length b ≡ CELLS) (few : length outs ≡ 5) (size : length ins ≡ 5) where
+module _ (b : List ℕ) (n r o i : ℕ) (outs ins : List ℕ) (l : n < pairLimit) (u : length b ≡ CELLS) (few : length outs ≡ 5) (size : length ins ≡ 5) where
   abbrev entry : List ℕ
   entry = r ∷ o ∷ i ∷ (outs ++ ins)
 
@@ -71,7 +71,7 @@ module _ (b : List ℕ) (n r o i : ℕ) (outs ins : List ℕ) (l : n < 512) (u :
   pair-here : pairAt (withRow PAIRS n entry b) n ≡ record { right = r; out = o; into = i; outMw = outs; intoMw = ins }
   unfolding pairAt
   pair-here =
-      let cells = row-cell PAIRS 13 512 b n entry entry-size l (omega arith) in
+      let cells = row-cell PAIRS 13 pairLimit b n entry entry-size l (omega arith) in
       let two : PAIRS + 1 + n * 13 + 1 ≡ PAIRS + 2 + n * 13 = omega arith in
       let three : PAIRS + 1 + n * 13 + 2 ≡ PAIRS + 3 + n * 13 = omega arith in
       let four : PAIRS + 1 + n * 13 + 3 ≡ PAIRS + 4 + n * 13 = omega arith in
@@ -91,17 +91,17 @@ module _ (b : List ℕ) (n r o i : ℕ) (outs ins : List ℕ) (l : n < 512) (u :
           let e : 8 + k ≡ suc (suc (suc (length outs + k))) = omega arith in
           rw e (getD-append-add outs ins k 0)
 
-  pub pair-more : counted b PAIRS 512 ≡ n
+  pub pair-more : counted b PAIRS pairLimit ≡ n
       → bookOf (withRow PAIRS n entry b) ≡ withPairs (bookOf b) (bookOf b .pairs ++ (record { right = r; out = o; into = i; outMw = outs; intoMw = ins } ∷ []))
   unfolding bookOf pairsIn
   pair-more e =
-      only-pairs b (withRow PAIRS n entry b) (row-within PAIRS 13 512 b n entry entry-size l (omega arith) CELLS (omega arith))
+      only-pairs b (withRow PAIRS n entry b) (row-within PAIRS 13 pairLimit b n entry entry-size l (omega arith) CELLS (omega arith))
       ∙ ap (λ (x : List Pair). withPairs (bookOf b) x)
-      (table-more PAIRS 13 512 b n entry entry-size l (omega arith) pairAt pair-own (record { right = r; out = o; into = i; outMw = outs; intoMw = ins }) e pair-here)
+      (table-more PAIRS 13 pairLimit b n entry entry-size l (omega arith) pairAt pair-own (record { right = r; out = o; into = i; outMw = outs; intoMw = ins }) e pair-here)
 
 -- ---- the five MW of one side replaced
 
-module _ (b : List ℕ) (k side : ℕ) (mw : List ℕ) (l : k < 512) (s : side ≤ 1) (u : length b ≡ CELLS) (size : length mw ≡ 5) where
+module _ (b : List ℕ) (k side : ℕ) (mw : List ℕ) (l : k < pairLimit) (s : side ≤ 1) (u : length b ≡ CELLS) (size : length mw ≡ 5) where
   abbrev at : ℕ
   at = PAIRS + 4 + k * 13 + 5 * side
 
@@ -144,11 +144,11 @@ module _ (b : List ℕ) (k side : ℕ) (mw : List ℕ) (l : k < 512) (s : side �
           (subst (λ (x : ℕ). part made x 5 ≡ mw) p mw-here))
 
   -- the row of the pair is the only one that changes
-  pub side-replaced : k < counted b PAIRS 512 → bookOf made ≡ withPairs (bookOf b) (set (bookOf b .pairs) k (withSide side mw (pairAt b k)))
+  pub side-replaced : k < counted b PAIRS pairLimit → bookOf made ≡ withPairs (bookOf b) (set (bookOf b .pairs) k (withSide side mw (pairAt b k)))
   unfolding bookOf pairsIn
   side-replaced m =
       only-pairs b made (record { below = λ x h. other x (λ j p e. omega arith); above = λ x h. other x (λ j p e. omega arith) })
       ∙ ap (λ (x : List Pair). withPairs (bookOf b) x)
-      (table-set pairAt PAIRS 512 b made k (other PAIRS (λ j p e. omega arith)) m
+      (table-set pairAt PAIRS pairLimit b made k (other PAIRS (λ j p e. omega arith)) m
       (λ j e. pair-own b made j (λ i p. other (PAIRS + 1 + j * 13 + i) (λ q r t. e (omega arith))))
       ∙ ap (λ (x : Pair). set (pairsIn b) k x) side-here)

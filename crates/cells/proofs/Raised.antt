@@ -7,12 +7,12 @@ use mathlib.Core.List.{List, [], _∷_}
 use native.Mathlib.Omega.{arith}
 use lib.ListN.{getD, set, length, length-set}
 use lib.Seq.{getD-set-same, getD-set-other, ext-getD}
-use Rattle.rules.specs.Book.{Right}
-use Rattle.rules.specs.Bids.{cellLimit, wrapAdded}
+use Rattle.rules.specs.Book.{Right, rightLimit}
+use Rattle.rules.specs.Bids.{cellValues, wrapAdded}
 use Rattle.cells.specs.Layout.{CELLS, RIGHTS}
 use Rattle.cells.specs.View.{cell, part, counted, rightAt, rightsIn, bookOf}
 use Rattle.cells.specs.Bids.{addedNext, addedFive}
-use Rattle.cells.proofs.Runs.{run-same, run-once}
+use Rattle.cells.proofs.Repeats.{repeated-same, repeated-once}
 use Rattle.cells.proofs.Regions.{only-rights}
 use Rattle.cells.specs.Updates.{withRights}
 use Rattle.cells.proofs.Stores.{part-at, part-length}
@@ -28,7 +28,7 @@ length-wrap (x ∷ xs) [] n p q = p
 length-wrap (x ∷ xs) (y ∷ ys) zero p q = absurd (omega arith)
 length-wrap (x ∷ xs) (y ∷ ys) (suc n) p q = ap suc (length-wrap xs ys n (omega arith) (omega arith))
 
-getD-wrap : (xs ys : List ℕ) (k : ℕ) → k < length xs → k < length ys → getD (wrapAdded xs ys) k 0 ≡ (getD xs k 0 + getD ys k 0) % cellLimit
+getD-wrap : (xs ys : List ℕ) (k : ℕ) → k < length xs → k < length ys → getD (wrapAdded xs ys) k 0 ≡ (getD xs k 0 + getD ys k 0) % cellValues
 unfolding wrapAdded
 getD-wrap [] ys k p q = absurd (omega arith)
 getD-wrap (x ∷ xs) [] k p q = absurd (omega arith)
@@ -40,12 +40,12 @@ getD-wrap (x ∷ xs) (y ∷ ys) (suc k) p q = getD-wrap xs ys k (omega arith) (o
 five-other : (at : ℕ) (mw b : List ℕ) (x : ℕ) → ((k : ℕ) → k < 5 → x ≢ at + k) → cell (addedFive at mw b) x ≡ cell b x
 unfolding addedFive addedNext
 five-other at mw b x h =
-    run-same (λ (y : List ℕ). cell y x) (addedNext at mw) 5 0 b (λ i l u y. getD-set-other y (at + i) x _ 0 (h i (omega arith)))
+    repeated-same (λ (y : List ℕ). cell y x) (addedNext at mw) 5 0 b (λ i l u y. getD-set-other y (at + i) x _ 0 (h i (omega arith)))
 
-five-at : (at : ℕ) (mw b : List ℕ) (k : ℕ) → k < 5 → at + 5 ≤ length b → cell (addedFive at mw b) (at + k) ≡ (cell b (at + k) + getD mw k 0) % cellLimit
+five-at : (at : ℕ) (mw b : List ℕ) (k : ℕ) → k < 5 → at + 5 ≤ length b → cell (addedFive at mw b) (at + k) ≡ (cell b (at + k) + getD mw k 0) % cellValues
 unfolding addedFive addedNext
 five-at at mw b k h u =
-    run-once (λ (y : List ℕ). cell y (at + k)) (addedNext at mw) (λ (y : List ℕ). at + 5 ≤ length y) (λ (v : ℕ). (v + getD mw k 0) % cellLimit) k 5 0 b
+    repeated-once (λ (y : List ℕ). cell y (at + k)) (addedNext at mw) (λ (y : List ℕ). at + 5 ≤ length y) (λ (v : ℕ). (v + getD mw k 0) % cellValues) k 5 0 b
     (λ i y p. simp length-set p)
     (λ y p. getD-set-same y (at + k) _ 0 (omega arith))
     (λ i a c e y. getD-set-other y (at + i) (at + k) _ 0 (λ q. e (omega arith)))
@@ -53,9 +53,9 @@ five-at at mw b k h u =
 
 pub length-five : (at : ℕ) (mw b : List ℕ) → length (addedFive at mw b) ≡ length b
 unfolding addedFive addedNext
-length-five at mw b = run-same length (addedNext at mw) 5 0 b (λ k l u y. length-set y (at + k) _)
+length-five at mw b = repeated-same length (addedNext at mw) 5 0 b (λ k l u y. length-set y (at + k) _)
 
-module _ (b : List ℕ) (i : ℕ) (mw : List ℕ) (l : i < 512) (u : length b ≡ CELLS) (size : length mw ≡ 5) where
+module _ (b : List ℕ) (i : ℕ) (mw : List ℕ) (l : i < rightLimit) (u : length b ≡ CELLS) (size : length mw ≡ 5) where
   abbrev at : ℕ
   at = RIGHTS + 4 + i * 8
 
@@ -85,11 +85,11 @@ module _ (b : List ℕ) (i : ℕ) (mw : List ℕ) (l : i < 512) (u : length b �
       mw-here
 
   -- the row of the right is the only one that changes
-  pub right-raised : i < counted b RIGHTS 512 → bookOf made ≡ withRights (bookOf b) (set (bookOf b .rights) i (raised mw (rightAt b i)))
+  pub right-raised : i < counted b RIGHTS rightLimit → bookOf made ≡ withRights (bookOf b) (set (bookOf b .rights) i (raised mw (rightAt b i)))
   unfolding bookOf rightsIn
   right-raised m =
       only-rights b made (record { below = λ x h. other x (λ k p e. omega arith); above = λ x h. other x (λ k p e. omega arith) })
       ∙ ap (λ (x : List Right). withRights (bookOf b) x)
-      (table-set rightAt RIGHTS 512 b made i (other RIGHTS (λ k p e. omega arith)) m
+      (table-set rightAt RIGHTS rightLimit b made i (other RIGHTS (λ k p e. omega arith)) m
       (λ j e. right-own b made j (λ k p. other (RIGHTS + 1 + j * 8 + k) (λ q r s. e (omega arith))))
       ∙ ap (λ (x : Right). set (rightsIn b) i x) raised-here)

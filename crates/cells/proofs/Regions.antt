@@ -7,6 +7,7 @@ use mathlib.Core.List.{List, [], _∷_, _++_}
 use native.Mathlib.Nat.{le-trans, lt-of-lt-of-le}
 use native.Mathlib.Omega.{arith}
 use lib.Dec.{lit≤, lit<}
+use Rattle.rules.specs.Book.{directionLimit, pairLimit, partyLimit, profileLimit, rightLimit}
 use Rattle.cells.specs.Updates.{withDirections, withProfiles, withParties, withOffered, withGranted, withRights, withPairs, withMatched}
 use Rattle.cells.specs.Loops.{rows}
 use Rattle.cells.specs.Layout.{CELLS, DIRECTIONS, PROFILES, PARTIES, OFFERED, GRANTED, MATCHED, RIGHTS, PAIRS}
@@ -55,25 +56,25 @@ module _ (b b′ : List ℕ) where
   started-agree : Agree 3 4 b b′ → startedIn b′ ≡ startedIn b
   started-agree h = rw (h 3 (lit≤ tt) (lit< tt))
 
-  direction-agree : Agree DIRECTIONS PROFILES b b′ → (i : ℕ) → i < 24 → directionAt b′ i ≡ directionAt b i
+  direction-agree : Agree DIRECTIONS PROFILES b b′ → (i : ℕ) → i < directionLimit → directionAt b′ i ≡ directionAt b i
   direction-agree h i l = rw (h (DIRECTIONS + 1 + i * 3) (omega arith) (omega arith), h (DIRECTIONS + 2 + i * 3) (omega arith) (omega arith), h (DIRECTIONS + 3 + i * 3) (omega arith) (omega arith))
 
   directions-agree : Agree DIRECTIONS PROFILES b b′ → directionsIn b′ ≡ directionsIn b
   unfolding directionsIn
-  directions-agree h = rows-agree directionAt DIRECTIONS 24 (h DIRECTIONS (lit≤ tt) (lit< tt)) (direction-agree h)
+  directions-agree h = rows-agree directionAt DIRECTIONS directionLimit (h DIRECTIONS (lit≤ tt) (lit< tt)) (direction-agree h)
 
   profiles-agree : Agree PROFILES PARTIES b b′ → profilesIn b′ ≡ profilesIn b
   unfolding profilesIn part cellFrom
-  profiles-agree h = rows-agree (λ x. cellFrom x (PROFILES + 1)) PROFILES 8 (h PROFILES (lit≤ tt) (lit< tt)) (λ i l. h ((PROFILES + 1) + i) (omega arith) (omega arith))
+  profiles-agree h = rows-agree (λ x. cellFrom x (PROFILES + 1)) PROFILES profileLimit (h PROFILES (lit≤ tt) (lit< tt)) (λ i l. h ((PROFILES + 1) + i) (omega arith) (omega arith))
 
-  party-agree : Agree PARTIES OFFERED b b′ → (i : ℕ) → i < 64 → partyAt b′ i ≡ partyAt b i
+  party-agree : Agree PARTIES OFFERED b b′ → (i : ℕ) → i < partyLimit → partyAt b′ i ≡ partyAt b i
   unfolding partyAt
   party-agree h i l =
       rw (part-agree (PARTIES + 1 + i * 17) 16 (λ j p q. h j (omega arith) (omega arith)), h (PARTIES + 17 + i * 17) (omega arith) (omega arith))
 
   parties-agree : Agree PARTIES OFFERED b b′ → partiesIn b′ ≡ partiesIn b
   unfolding partiesIn
-  parties-agree h = rows-agree partyAt PARTIES 64 (h PARTIES (lit≤ tt) (lit< tt)) (party-agree h)
+  parties-agree h = rows-agree partyAt PARTIES partyLimit (h PARTIES (lit≤ tt) (lit< tt)) (party-agree h)
 
   offered-agree : Agree OFFERED GRANTED b b′ → offeredIn b′ ≡ offeredIn b
   unfolding offeredIn
@@ -87,23 +88,23 @@ module _ (b b′ : List ℕ) where
   unfolding matchedIn
   matched-agree h = part-agree MATCHED 600 h
 
-  right-agree : Agree RIGHTS PAIRS b b′ → (i : ℕ) → i < 512 → rightAt b′ i ≡ rightAt b i
+  right-agree : Agree RIGHTS PAIRS b b′ → (i : ℕ) → i < rightLimit → rightAt b′ i ≡ rightAt b i
   unfolding rightAt
   right-agree h i l =
       rw (h (RIGHTS + 1 + i * 8) (omega arith) (omega arith), h (RIGHTS + 2 + i * 8) (omega arith) (omega arith), h (RIGHTS + 3 + i * 8) (omega arith) (omega arith), part-agree (RIGHTS + 4 + i * 8) 5 (λ j p q. h j (omega arith) (omega arith)))
 
   rights-agree : Agree RIGHTS PAIRS b b′ → rightsIn b′ ≡ rightsIn b
   unfolding rightsIn
-  rights-agree h = rows-agree rightAt RIGHTS 512 (h RIGHTS (lit≤ tt) (lit< tt)) (right-agree h)
+  rights-agree h = rows-agree rightAt RIGHTS rightLimit (h RIGHTS (lit≤ tt) (lit< tt)) (right-agree h)
 
-  pair-agree : Agree PAIRS CELLS b b′ → (i : ℕ) → i < 512 → pairAt b′ i ≡ pairAt b i
+  pair-agree : Agree PAIRS CELLS b b′ → (i : ℕ) → i < pairLimit → pairAt b′ i ≡ pairAt b i
   unfolding pairAt
   pair-agree h i l =
       rw (h (PAIRS + 1 + i * 13) (omega arith) (omega arith), h (PAIRS + 2 + i * 13) (omega arith) (omega arith), h (PAIRS + 3 + i * 13) (omega arith) (omega arith), part-agree (PAIRS + 4 + i * 13) 5 (λ j p q. h j (omega arith) (omega arith)), part-agree (PAIRS + 9 + i * 13) 5 (λ j p q. h j (omega arith) (omega arith)))
 
   pairs-agree : Agree PAIRS CELLS b b′ → pairsIn b′ ≡ pairsIn b
   unfolding pairsIn
-  pairs-agree h = rows-agree pairAt PAIRS 512 (h PAIRS (lit≤ tt) (lit< tt)) (pair-agree h)
+  pairs-agree h = rows-agree pairAt PAIRS pairLimit (h PAIRS (lit≤ tt) (lit< tt)) (pair-agree h)
 
   -- ---- and a change within one run leaves all other parts alone
 

@@ -9,7 +9,7 @@ use native.Mathlib.Nat.{add-zero, zero-add, mul-le-mul-right, le-trans, mod-eq-o
 use native.Mathlib.Numerals.{add-one}
 use lib.ListN.{getD, set, length, drop, length-set, drop-of-length-le, length-append, List·getD-append}
 use lib.Seq.{getD-set-same, getD-set-other, sets, length-sets, drop-cons, ext-getD, getD-append-seam}
-use Rattle.rules.specs.Book.{Direction, Party, Right}
+use Rattle.rules.specs.Book.{Direction, Party, Right, directionLimit, partyLimit, profileLimit, rightLimit}
 use Rattle.cells.specs.Loops.{rows}
 use Rattle.cells.specs.Layout.{CELLS, DIRECTIONS, PROFILES, PARTIES, OFFERED, RIGHTS, PAIRS}
 use Rattle.cells.specs.View.{cell, cellFrom, part, counted, directionAt, directionsIn, profilesIn, partyAt, partiesIn, rightAt, rightsIn, bookOf}
@@ -151,37 +151,37 @@ part-written b at s n row size h =
 
 -- ---- a direction more
 
-pub direction-more : (b : List ℕ) (n o i m : ℕ) → n < 24 → length b ≡ CELLS → counted b DIRECTIONS 24 ≡ n
+pub direction-more : (b : List ℕ) (n o i m : ℕ) → n < directionLimit → length b ≡ CELLS → counted b DIRECTIONS directionLimit ≡ n
     → bookOf (withRow DIRECTIONS n (o ∷ i ∷ m ∷ []) b) ≡ withDirections (bookOf b) (bookOf b .directions ++ (record { out = o; into = i; model = m } ∷ []))
 unfolding bookOf directionsIn
 direction-more b n o i m l u e =
     let row : List ℕ = o ∷ i ∷ m ∷ [] in
     let two : DIRECTIONS + 1 + n * 3 + 1 ≡ DIRECTIONS + 2 + n * 3 = omega arith in
     let three : DIRECTIONS + 1 + n * 3 + 2 ≡ DIRECTIONS + 3 + n * 3 = omega arith in
-    only-directions b (withRow DIRECTIONS n row b) (row-within DIRECTIONS 3 24 b n row refl l (omega arith) PROFILES (omega arith))
+    only-directions b (withRow DIRECTIONS n row b) (row-within DIRECTIONS 3 directionLimit b n row refl l (omega arith) PROFILES (omega arith))
     ∙ ap (λ (x : List Direction). withDirections (bookOf b) x)
-    (table-more DIRECTIONS 3 24 b n row refl l (omega arith) directionAt direction-own (record { out = o; into = i; model = m }) e
-    (rw (rw add-zero at (row-cell DIRECTIONS 3 24 b n row refl l (omega arith) 0 (omega arith)), rw two at (row-cell DIRECTIONS 3 24 b n row refl l (omega arith) 1 (omega arith)), rw three at (row-cell DIRECTIONS 3 24 b n row refl l (omega arith) 2 (omega arith)))))
+    (table-more DIRECTIONS 3 directionLimit b n row refl l (omega arith) directionAt direction-own (record { out = o; into = i; model = m }) e
+    (rw (rw add-zero at (row-cell DIRECTIONS 3 directionLimit b n row refl l (omega arith) 0 (omega arith)), rw two at (row-cell DIRECTIONS 3 directionLimit b n row refl l (omega arith) 1 (omega arith)), rw three at (row-cell DIRECTIONS 3 directionLimit b n row refl l (omega arith) 2 (omega arith)))))
 
 -- ---- a profile more
 
-pub profile-more : (b : List ℕ) (n map : ℕ) → n < 8 → length b ≡ CELLS → counted b PROFILES 8 ≡ n
+pub profile-more : (b : List ℕ) (n map : ℕ) → n < profileLimit → length b ≡ CELLS → counted b PROFILES profileLimit ≡ n
     → bookOf (withRow PROFILES n (map ∷ []) b) ≡ withProfiles (bookOf b) (bookOf b .profiles ++ (map ∷ []))
 unfolding bookOf profilesIn part cellFrom
 profile-more b n map l u e =
     let row : List ℕ = map ∷ [] in
     let one : PROFILES + 1 + n * 1 + 0 ≡ PROFILES + 1 + n = omega arith in
-    only-profiles b (withRow PROFILES n row b) (row-within PROFILES 1 8 b n row refl l (omega arith) PARTIES (omega arith))
+    only-profiles b (withRow PROFILES n row b) (row-within PROFILES 1 profileLimit b n row refl l (omega arith) PARTIES (omega arith))
     ∙ ap (λ (x : List ℕ). withProfiles (bookOf b) x)
-    (table-more PROFILES 1 8 b n row refl l (omega arith) (λ c. cellFrom c (PROFILES + 1)) profile-own map e
-    (rw one at (row-cell PROFILES 1 8 b n row refl l (omega arith) 0 (omega arith))))
+    (table-more PROFILES 1 profileLimit b n row refl l (omega arith) (λ c. cellFrom c (PROFILES + 1)) profile-own map e
+    (rw one at (row-cell PROFILES 1 profileLimit b n row refl l (omega arith) 0 (omega arith))))
 
 -- ---- a party more
 
 party-same : {c c′ : List ℕ} {a a′ : ℕ} → c ≡ c′ → a ≡ a′ → _≡_ {A = Party} (record { code = c; access = a }) (record { code = c′; access = a′ })
 party-same p q = rw (p, q)
 
-module _ (b : List ℕ) (n : ℕ) (code : List ℕ) (access : ℕ) (l : n < 64) (u : length b ≡ CELLS) (size : length code ≡ 16) where
+module _ (b : List ℕ) (n : ℕ) (code : List ℕ) (access : ℕ) (l : n < partyLimit) (u : length b ≡ CELLS) (size : length code ≡ 16) where
   abbrev row : List ℕ
   row = code ++ (access ∷ [])
 
@@ -194,17 +194,17 @@ module _ (b : List ℕ) (n : ℕ) (code : List ℕ) (access : ℕ) (l : n < 64) 
   party-here : partyAt (withRow PARTIES n row b) n ≡ record { code = code; access = access }
   unfolding partyAt
   party-here =
-      let cells = row-cell PARTIES 17 64 b n row row-size l (omega arith) in
+      let cells = row-cell PARTIES 17 partyLimit b n row row-size l (omega arith) in
       let last : PARTIES + 1 + n * 17 + 16 ≡ PARTIES + 17 + n * 17 = omega arith in
       party-same
       (rw add-zero at (part-written (withRow PARTIES n row b) (PARTIES + 1 + n * 17) 0 16 code size (λ k m. rw (zero-add k) (cells k (omega arith) ∙ List·getD-append code (access ∷ []) 0 k (omega arith)))))
       (rw last at (cells 16 (omega arith) ∙ seventeenth))
 
-  pub party-more : counted b PARTIES 64 ≡ n → bookOf (withRow PARTIES n row b) ≡ withParties (bookOf b) (bookOf b .parties ++ (record { code = code; access = access } ∷ []))
+  pub party-more : counted b PARTIES partyLimit ≡ n → bookOf (withRow PARTIES n row b) ≡ withParties (bookOf b) (bookOf b .parties ++ (record { code = code; access = access } ∷ []))
   unfolding bookOf partiesIn
   party-more e =
-      only-parties b (withRow PARTIES n row b) (row-within PARTIES 17 64 b n row row-size l (omega arith) OFFERED (omega arith))
-      ∙ ap (λ (x : List Party). withParties (bookOf b) x) (table-more PARTIES 17 64 b n row row-size l (omega arith) partyAt party-own (record { code = code; access = access }) e party-here)
+      only-parties b (withRow PARTIES n row b) (row-within PARTIES 17 partyLimit b n row row-size l (omega arith) OFFERED (omega arith))
+      ∙ ap (λ (x : List Party). withParties (bookOf b) x) (table-more PARTIES 17 partyLimit b n row row-size l (omega arith) partyAt party-own (record { code = code; access = access }) e party-here)
 
 -- ---- a right more
 
@@ -212,7 +212,7 @@ pub right-same : {h h′ d d′ s s′ : ℕ} {m m′ : List ℕ} → h ≡ h′
     → _≡_ {A = Right} (record { holder = h; direction = d; session = s; mw = m }) (record { holder = h′; direction = d′; session = s′; mw = m′ })
 right-same p q r t = rw (p, q, r, t)
 
-module _ (b : List ℕ) (n h d s : ℕ) (mw : List ℕ) (bytes : (h < 256) × (d < 256) × (s < 256)) (l : n < 512) (u : length b ≡ CELLS) (size : length mw ≡ 5) where
+module _ (b : List ℕ) (n h d s : ℕ) (mw : List ℕ) (bytes : (h < 256) × (d < 256) × (s < 256)) (l : n < rightLimit) (u : length b ≡ CELLS) (size : length mw ≡ 5) where
   abbrev entry : List ℕ
   entry = h ∷ d ∷ s ∷ mw
 
@@ -222,7 +222,7 @@ module _ (b : List ℕ) (n h d s : ℕ) (mw : List ℕ) (bytes : (h < 256) × (d
   right-here : rightAt (withRow RIGHTS n entry b) n ≡ record { holder = h; direction = d; session = s; mw = mw }
   unfolding rightAt
   right-here =
-      let cells = row-cell RIGHTS 8 512 b n entry entry-size l (omega arith) in
+      let cells = row-cell RIGHTS 8 rightLimit b n entry entry-size l (omega arith) in
       let two : RIGHTS + 1 + n * 8 + 1 ≡ RIGHTS + 2 + n * 8 = omega arith in
       let three : RIGHTS + 1 + n * 8 + 2 ≡ RIGHTS + 3 + n * 8 = omega arith in
       let four : RIGHTS + 1 + n * 8 + 3 ≡ RIGHTS + 4 + n * 8 = omega arith in
@@ -238,10 +238,10 @@ module _ (b : List ℕ) (n h d s : ℕ) (mw : List ℕ) (bytes : (h < 256) × (d
       three-on : (k : ℕ) → getD entry (3 + k) 0 ≡ getD mw k 0
       three-on k = let e : 3 + k ≡ suc (suc (suc k)) = omega arith in rw e
 
-  pub right-more : counted b RIGHTS 512 ≡ n
+  pub right-more : counted b RIGHTS rightLimit ≡ n
       → bookOf (withRow RIGHTS n entry b) ≡ withRights (bookOf b) (bookOf b .rights ++ (record { holder = h; direction = d; session = s; mw = mw } ∷ []))
   unfolding bookOf rightsIn
   right-more e =
-      only-rights b (withRow RIGHTS n entry b) (row-within RIGHTS 8 512 b n entry entry-size l (omega arith) PAIRS (omega arith))
+      only-rights b (withRow RIGHTS n entry b) (row-within RIGHTS 8 rightLimit b n entry entry-size l (omega arith) PAIRS (omega arith))
       ∙ ap (λ (x : List Right). withRights (bookOf b) x)
-      (table-more RIGHTS 8 512 b n entry entry-size l (omega arith) rightAt right-own (record { holder = h; direction = d; session = s; mw = mw }) e right-here)
+      (table-more RIGHTS 8 rightLimit b n entry entry-size l (omega arith) rightAt right-own (record { holder = h; direction = d; session = s; mw = mw }) e right-here)

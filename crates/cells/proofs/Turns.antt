@@ -1,10 +1,10 @@
--- The turn and the end of a loop that counts k up to n: a search, and a run of stores.
+-- The turn and the end of a loop that counts k up to n: a search, and a loop of stores.
 -- Assumes nothing.
 use mathlib.Core.Path.{_≡_}
 use mathlib.Core.Bool.{Bool, true, false, cond}
 use Prim.Native.Nat.{ℕ, suc, _+_, _-_, _≤_, _<_}
 use native.Mathlib.Omega.{arith}
-use Rattle.cells.specs.Loops.{each, run}
+use Rattle.cells.specs.Loops.{each, repeated}
 
 one-more : (n k : ℕ) → k < n → n - k ≡ suc (n - (k + 1))
 one-more n k h = omega arith
@@ -27,16 +27,16 @@ module _ {A : Type 0} where
   pub each-start : (f : ℕ → A → A) (n : ℕ) (z : A) → each f n 0 z ≡ each f (n - 0) 0 z
   each-start f n z = rw (from-zero n)
 
-  pub run-start : (f : ℕ → A → A) (n : ℕ) (a : A) → run f n 0 a ≡ run f (n - 0) 0 a
-  run-start f n a = rw (from-zero n)
+  pub repeated-start : (f : ℕ → A → A) (n : ℕ) (a : A) → repeated f n 0 a ≡ repeated f (n - 0) 0 a
+  repeated-start f n a = rw (from-zero n)
 
-  pub run-next : (f : ℕ → A → A) (n k : ℕ) (a : A) → k < n → run f (n - k) k a ≡ run f (n - (k + 1)) (k + 1) (f k a)
-  unfolding run
-  run-next f n k a h = rw (one-more n k h)
+  pub repeated-next : (f : ℕ → A → A) (n k : ℕ) (a : A) → k < n → repeated f (n - k) k a ≡ repeated f (n - (k + 1)) (k + 1) (f k a)
+  unfolding repeated
+  repeated-next f n k a h = rw (one-more n k h)
 
-  pub run-done : (f : ℕ → A → A) (n k : ℕ) (a : A) → n ≤ k → run f (n - k) k a ≡ a
-  unfolding run
-  run-done f n k a h = rw (none-left n k h)
+  pub repeated-done : (f : ℕ → A → A) (n k : ℕ) (a : A) → n ≤ k → repeated f (n - k) k a ≡ a
+  unfolding repeated
+  repeated-done f n k a h = rw (none-left n k h)
 
   -- `cond` at a test whose answer a call gave
   pub told-true : {r t : Bool} (a b : A) → r ≡ t → r ≡ true → cond t a b ≡ a

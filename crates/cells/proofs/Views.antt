@@ -10,17 +10,17 @@ use lib.Dec.{eqb, leb, ltb, lit≤}
 use borrow.Author.Tests.{leb-false, ltb-false}
 use lib.ListN.{length, getD, List·getD-eq-default}
 use Rattle.rules.specs.Sessions.{sessionThere, hoursIn}
-use Rattle.rules.specs.Book.{Direction, Party, Pair, place, direction, party, right, leftAt, modelOf}
+use Rattle.rules.specs.Book.{Direction, Party, Pair, place, direction, party, right, leftAt, modelOf, directionLimit, pairLimit, partyLimit, profileLimit, rightLimit}
 use Rattle.rules.specs.Refusals.{directionUnknown, sessionUnknown, hourUnknown}
 use Rattle.cells.specs.Layout.{DIRECTIONS, PROFILES, PARTIES, OFFERED, GRANTED, MATCHED, RIGHTS, PAIRS}
-use Rattle.cells.specs.View.{cell, part, counted, dayHoursIn, directionAt, directionsIn, profilesIn, partyAt, partiesIn, offeredIn, grantedIn, matchedIn, rightAt, rightsIn, pairAt, pairsIn, bookOf}
+use Rattle.cells.specs.View.{InHour, cell, part, counted, dayHoursIn, directionAt, directionsIn, profilesIn, partyAt, partiesIn, offeredIn, grantedIn, matchedIn, rightAt, rightsIn, pairAt, pairsIn, bookOf}
 use Rattle.rules.proofs.Bools.{or-left, or-right}
 use Rattle.cells.proofs.Rows.{rows-length, rows-at}
 use Rattle.cells.proofs.Stores.{part-at, part-length}
 
-pub direction-count : (b : List ℕ) → length (bookOf b .directions) ≡ counted b DIRECTIONS 24
+pub direction-count : (b : List ℕ) → length (bookOf b .directions) ≡ counted b DIRECTIONS directionLimit
 unfolding bookOf directionsIn
-direction-count b = rows-length (directionAt b) (counted b DIRECTIONS 24) 0
+direction-count b = rows-length (directionAt b) (counted b DIRECTIONS directionLimit) 0
 
 pub offered-at : (b : List ℕ) (i : ℕ) → i < 800 → getD (bookOf b .offered) i 0 ≡ cell b (OFFERED + i)
 unfolding bookOf offeredIn
@@ -30,10 +30,10 @@ pub granted-at : (b : List ℕ) (i : ℕ) → i < 800 → getD (bookOf b .grante
 unfolding bookOf grantedIn
 granted-at b i l = part-at b GRANTED 800 i l
 
-pub offered-place : (b : List ℕ) (l h : ℕ) → (l < 32) × ((1 ≤ h) × (h ≤ 25)) → getD (bookOf b .offered) (place l h) 0 ≡ cell b (OFFERED + place l h)
+pub offered-place : (b : List ℕ) (l h : ℕ) → InHour l h → getD (bookOf b .offered) (place l h) 0 ≡ cell b (OFFERED + place l h)
 offered-place b l h p = offered-at b (place l h) (omega arith)
 
-pub granted-place : (b : List ℕ) (l h : ℕ) → (l < 32) × ((1 ≤ h) × (h ≤ 25)) → getD (bookOf b .granted) (place l h) 0 ≡ cell b (GRANTED + place l h)
+pub granted-place : (b : List ℕ) (l h : ℕ) → InHour l h → getD (bookOf b .granted) (place l h) 0 ≡ cell b (GRANTED + place l h)
 granted-place b l h p = granted-at b (place l h) (omega arith)
 
 -- a day has 23 to 25 hours, whatever its cell holds
@@ -56,13 +56,13 @@ hours-few n model s h = go (eqb model 1) (leb s 1)
     go false true = omega arith
     go false false = omega arith
 
-pub known-direction : (b : List ℕ) (d : ℕ) → directionUnknown (bookOf b) d ≡ false → d < counted b DIRECTIONS 24
+pub known-direction : (b : List ℕ) (d : ℕ) → directionUnknown (bookOf b) d ≡ false → d < counted b DIRECTIONS directionLimit
 known-direction b d e = rw (direction-count b) at (leb-false (length (bookOf b .directions)) d e)
 
 -- a direction and an hour that are there
 pub record Known (b : List ℕ) (d hour : ℕ) : Type 0 where
-  pub direction : d < counted b DIRECTIONS 24
-  pub row : d < 24
+  pub direction : d < counted b DIRECTIONS directionLimit
+  pub row : d < directionLimit
   pub first : 1 ≤ hour
   pub last : hour ≤ dayHoursIn b
   pub most : hour ≤ 25
@@ -76,66 +76,66 @@ known-hour b hour f =
 
 pub known : (b : List ℕ) (d hour : ℕ) → (leb (length (bookOf b .directions)) d || hourUnknown (bookOf b) hour) ≡ false → Known b d hour
 known b d hour e =
-    let l : d < counted b DIRECTIONS 24 = rw (direction-count b) at (leb-false (length (bookOf b .directions)) d (or-left _ (hourUnknown (bookOf b) hour) e)) in
+    let l : d < counted b DIRECTIONS directionLimit = rw (direction-count b) at (leb-false (length (bookOf b .directions)) d (or-left _ (hourUnknown (bookOf b) hour) e)) in
     let h = known-hour b hour (or-right (leb (length (bookOf b .directions)) d) (hourUnknown (bookOf b) hour) e) in
     record { direction = l; row = omega arith; first = h .0; last = h .1 .0; most = h .1 .1 }
 
-pub slot : {b : List ℕ} {d hour : ℕ} → Known b d hour → (d < 32) × ((1 ≤ hour) × (hour ≤ 25))
-slot k = let l = k .row in (omega arith, (k .first, k .most))
+pub slot : {b : List ℕ} {d hour : ℕ} → Known b d hour → InHour d hour
+slot k = let l = k .row in record { in-table = omega arith; from = k .first; to = k .most }
 
 -- capacity left
-pub left-at : (b : List ℕ) (l h : ℕ) → (l < 32) × ((1 ≤ h) × (h ≤ 25)) → leftAt (bookOf b) l h ≡ cell b (OFFERED + place l h) - cell b (GRANTED + place l h)
+pub left-at : (b : List ℕ) (l h : ℕ) → InHour l h → leftAt (bookOf b) l h ≡ cell b (OFFERED + place l h) - cell b (GRANTED + place l h)
 left-at b l h p = rw (offered-place b l h p, granted-place b l h p)
 
 -- ---- profiles
 
-pub profile-count : (b : List ℕ) → length (bookOf b .profiles) ≡ counted b PROFILES 8
+pub profile-count : (b : List ℕ) → length (bookOf b .profiles) ≡ counted b PROFILES profileLimit
 unfolding bookOf profilesIn
-profile-count b = part-length b (PROFILES + 1) (counted b PROFILES 8)
+profile-count b = part-length b (PROFILES + 1) (counted b PROFILES profileLimit)
 
 pub record KnownProfile (b : List ℕ) (p hour : ℕ) : Type 0 where
-  pub profile : p < 8
+  pub profile : p < profileLimit
   pub first : 1 ≤ hour
   pub last : hour ≤ dayHoursIn b
-  pub row : (24 + p < 32) × ((1 ≤ hour) × (hour ≤ 25))
+  pub row : InHour (24 + p) hour
 
 pub known-profile : (b : List ℕ) (p hour : ℕ) → (leb (length (bookOf b .profiles)) p || hourUnknown (bookOf b) hour) ≡ false → KnownProfile b p hour
 known-profile b p hour e =
-    let l : p < counted b PROFILES 8 = rw (profile-count b) at (leb-false (length (bookOf b .profiles)) p (or-left _ (hourUnknown (bookOf b) hour) e)) in
+    let l : p < counted b PROFILES profileLimit = rw (profile-count b) at (leb-false (length (bookOf b .profiles)) p (or-left _ (hourUnknown (bookOf b) hour) e)) in
     let h = known-hour b hour (or-right (leb (length (bookOf b .profiles)) p) (hourUnknown (bookOf b) hour) e) in
-    record { profile = omega arith; first = h .0; last = h .1 .0; row = (omega arith, (h .0, h .1 .1)) }
+    record { profile = omega arith; first = h .0; last = h .1 .0; row = record { in-table = omega arith; from = h .0; to = h .1 .1 } }
 
 -- ---- parties and rights
 
-pub party-count : (b : List ℕ) → length (bookOf b .parties) ≡ counted b PARTIES 64
+pub party-count : (b : List ℕ) → length (bookOf b .parties) ≡ counted b PARTIES partyLimit
 unfolding bookOf partiesIn
-party-count b = rows-length (partyAt b) (counted b PARTIES 64) 0
+party-count b = rows-length (partyAt b) (counted b PARTIES partyLimit) 0
 
-pub access-at : (b : List ℕ) (p : ℕ) → p < counted b PARTIES 64 → party (bookOf b .parties) p .access ≡ cell b (PARTIES + 17 + p * 17)
+pub access-at : (b : List ℕ) (p : ℕ) → p < counted b PARTIES partyLimit → party (bookOf b .parties) p .access ≡ cell b (PARTIES + 17 + p * 17)
 unfolding bookOf partiesIn
 access-at b p l =
-    ap (λ (x : Party). x .access) (rows-at (partyAt b) (counted b PARTIES 64) 0 p (record { code = []; access = 0 }) l ∙ ap (partyAt b) (zero-add p)) ∙ unfold partyAt in refl
+    ap (λ (x : Party). x .access) (rows-at (partyAt b) (counted b PARTIES partyLimit) 0 p (record { code = []; access = 0 }) l ∙ ap (partyAt b) (zero-add p)) ∙ unfold partyAt in refl
 
-pub direction-at : (b : List ℕ) (d : ℕ) → d < counted b DIRECTIONS 24 → direction (bookOf b .directions) d ≡ directionAt b d
+pub direction-at : (b : List ℕ) (d : ℕ) → d < counted b DIRECTIONS directionLimit → direction (bookOf b .directions) d ≡ directionAt b d
 unfolding bookOf directionsIn
-direction-at b d l = rows-at (directionAt b) (counted b DIRECTIONS 24) 0 d (record { out = 0; into = 0; model = 0 }) l ∙ ap (directionAt b) (zero-add d)
+direction-at b d l = rows-at (directionAt b) (counted b DIRECTIONS directionLimit) 0 d (record { out = 0; into = 0; model = 0 }) l ∙ ap (directionAt b) (zero-add d)
 
-pub model-at : (b : List ℕ) (d : ℕ) → d < counted b DIRECTIONS 24 → modelOf (bookOf b) d ≡ directionAt b d .model
+pub model-at : (b : List ℕ) (d : ℕ) → d < counted b DIRECTIONS directionLimit → modelOf (bookOf b) d ≡ directionAt b d .model
 model-at b d l = ap (λ (x : Direction). x .model) (direction-at b d l)
 
 -- the session of a direction that is there
-pub session-unknown : (b : List ℕ) (d s n m : ℕ) → n ≡ dayHoursIn b → m ≡ directionAt b d .model → d < counted b DIRECTIONS 24
+pub session-unknown : (b : List ℕ) (d s n m : ℕ) → n ≡ dayHoursIn b → m ≡ directionAt b d .model → d < counted b DIRECTIONS directionLimit
     → not (sessionThere n m s) ≡ sessionUnknown (bookOf b) d s
 unfolding bookOf
 session-unknown b d s n m p q l = rw (p, q, model-at b d l)
 
-pub right-count : (b : List ℕ) → length (bookOf b .rights) ≡ counted b RIGHTS 512
+pub right-count : (b : List ℕ) → length (bookOf b .rights) ≡ counted b RIGHTS rightLimit
 unfolding bookOf rightsIn
-right-count b = rows-length (rightAt b) (counted b RIGHTS 512) 0
+right-count b = rows-length (rightAt b) (counted b RIGHTS rightLimit) 0
 
-pub right-at : (b : List ℕ) (r : ℕ) → r < counted b RIGHTS 512 → right (bookOf b .rights) r ≡ rightAt b r
+pub right-at : (b : List ℕ) (r : ℕ) → r < counted b RIGHTS rightLimit → right (bookOf b .rights) r ≡ rightAt b r
 unfolding bookOf rightsIn
-right-at b r l = rows-at (rightAt b) (counted b RIGHTS 512) 0 r _ l ∙ ap (rightAt b) (zero-add r)
+right-at b r l = rows-at (rightAt b) (counted b RIGHTS rightLimit) 0 r _ l ∙ ap (rightAt b) (zero-add r)
 
 -- a table that is not full where an entry is needed
 pub has-room : (n limit : ℕ) (need : Bool) → (leb limit n && need) ≡ false → need ≡ true → n < limit
@@ -147,13 +147,13 @@ has-room n limit need e h = go (leb limit n) refl
 
 -- ---- pairs and matched sessions
 
-pub pair-count : (b : List ℕ) → length (bookOf b .pairs) ≡ counted b PAIRS 512
+pub pair-count : (b : List ℕ) → length (bookOf b .pairs) ≡ counted b PAIRS pairLimit
 unfolding bookOf pairsIn
-pair-count b = rows-length (pairAt b) (counted b PAIRS 512) 0
+pair-count b = rows-length (pairAt b) (counted b PAIRS pairLimit) 0
 
-pub pair-at : (b : List ℕ) (i : ℕ) (z : Pair) → i < counted b PAIRS 512 → getD (bookOf b .pairs) i z ≡ pairAt b i
+pub pair-at : (b : List ℕ) (i : ℕ) (z : Pair) → i < counted b PAIRS pairLimit → getD (bookOf b .pairs) i z ≡ pairAt b i
 unfolding bookOf pairsIn
-pair-at b i z l = rows-at (pairAt b) (counted b PAIRS 512) 0 i z l ∙ ap (pairAt b) (zero-add i)
+pair-at b i z l = rows-at (pairAt b) (counted b PAIRS pairLimit) 0 i z l ∙ ap (pairAt b) (zero-add i)
 
 pub matched-at : (b : List ℕ) (i : ℕ) → i < 600 → getD (bookOf b .matched) i 0 ≡ cell b (MATCHED + i)
 unfolding bookOf matchedIn

@@ -7,34 +7,34 @@ use lib.ListN.{getD, set}
 use Rattle.rules.specs.Basics.{bit}
 use Rattle.rules.specs.Book.{place}
 use Rattle.rules.specs.Bids.{share}
-use Rattle.cells.specs.Loops.{run}
+use Rattle.cells.specs.Loops.{repeated}
 use Rattle.cells.specs.Layout.{PROFILES, GRANTED}
 use Rattle.cells.specs.View.{cell}
 
 -- mw more in one cell
-abbrev pub added : ℕ → ℕ → List ℕ → List ℕ
-added at mw b = set b at ((cell b at + mw) % 2 ^ 32)
+abbrev pub addedCell : ℕ → ℕ → List ℕ → List ℕ
+addedCell at mw b = set b at ((cell b at + mw) % 2 ^ 32)
 
 unfoldable pub grantedProfile : ℕ → ℕ → ℕ → ℕ → List ℕ → List ℕ
-grantedProfile d hour mw p b = cond (bit (cell b (PROFILES + 1 + p)) d) (added (GRANTED + place (24 + p) hour) mw b) b
+grantedProfile d hour mw p b = cond (bit (cell b (PROFILES + 1 + p)) d) (addedCell (GRANTED + place (24 + p) hour) mw b) b
 
 -- of the direction, and of n profiles
 unfoldable pub grantedHour : ℕ → ℕ → ℕ → ℕ → List ℕ → List ℕ
-grantedHour n d hour mw b = run (grantedProfile d hour mw) n 0 (added (GRANTED + place d hour) mw b)
+grantedHour n d hour mw b = repeated (grantedProfile d hour mw) n 0 (addedCell (GRANTED + place d hour) mw b)
 
 unfoldable pub grantedNext : ℕ → ℕ → ℕ → List ℕ → ℕ → List ℕ → List ℕ
 grantedNext n d first mw k b = grantedHour n d (first + k) (getD mw k 0) b
 
 -- of `count` hours
 unfoldable pub grantedHours : ℕ → ℕ → ℕ → ℕ → List ℕ → List ℕ → List ℕ
-grantedHours n d first count mw b = run (grantedNext n d first mw) count 0 b
+grantedHours n d first count mw b = repeated (grantedNext n d first mw) count 0 b
 
 -- the five MW of a right, from cell `at` on, with those of a bid
 unfoldable pub addedNext : ℕ → List ℕ → ℕ → List ℕ → List ℕ
-addedNext at mw k b = added (at + k) (getD mw k 0) b
+addedNext at mw k b = addedCell (at + k) (getD mw k 0) b
 
 unfoldable pub addedFive : ℕ → List ℕ → List ℕ → List ℕ
-addedFive at mw b = run (addedNext at mw) 5 0 b
+addedFive at mw b = repeated (addedNext at mw) 5 0 b
 
 -- the rule
 unfoldable pub withBidMw : List ℕ → ℕ → ℕ → List ℕ → ℕ → List ℕ → List ℕ

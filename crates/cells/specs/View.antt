@@ -1,12 +1,12 @@
 -- The book of the rules, read off any cells: a count past its table is read as a full one, and hours other than 23 and 25 as 24.
 -- Assumes nothing.
-use Prim.Native.Nat.{ℕ, _+_, _*_, _%_, _^_, _<_, min}
+use Prim.Native.Nat.{ℕ, _+_, _*_, _%_, _^_, _≤_, _<_, min}
 use mathlib.Core.Path.{_≡_}
 use mathlib.Core.Bool.{Bool, cond, not}
 use mathlib.Core.List.{List}
 use lib.Dec.{eqb}
 use lib.ListN.{getD, length}
-use Rattle.rules.specs.Book.{Direction, Party, Right, Pair, Book}
+use Rattle.rules.specs.Book.{Direction, Party, Right, Pair, Book, place, directionLimit, pairLimit, partyLimit, profileLimit, rightLimit}
 use Rattle.cells.specs.Loops.{rows}
 use Rattle.cells.specs.Layout.{CELLS, HOURS, WEEKDAY, CLOCK, STARTED, DIRECTIONS, PROFILES, PARTIES, OFFERED, GRANTED, MATCHED, RIGHTS, PAIRS}
 
@@ -23,6 +23,17 @@ part b at n = rows (cellFrom b at) n 0
 -- the count of a table with a limit
 abbrev pub counted : List ℕ → ℕ → ℕ → ℕ
 counted b at limit = min (cell b at) limit
+
+-- a row of the offers and of the granted MW, and an hour that some day has
+pub record InHour (row hour : ℕ) : Type 0 where
+  pub in-table : row < 32
+  pub from : 1 ≤ hour
+  pub to : hour ≤ 25
+
+-- r is the place of a row's hour, which the table has
+pub record Places (row hour r : ℕ) : Type 0 where
+  pub place-is : r ≡ place row hour
+  pub below : r < 800
 
 -- what is known of any book's cells: their count, and that each is a number of 32 bits
 pub record Sound (b : List ℕ) (n : ℕ) : Type 0 where
@@ -50,16 +61,16 @@ directionAt b i =
     record { out = cell b (DIRECTIONS + 1 + i * 3); into = cell b (DIRECTIONS + 2 + i * 3); model = cell b (DIRECTIONS + 3 + i * 3) }
 
 unfoldable pub directionsIn : List ℕ → List Direction
-directionsIn b = rows (directionAt b) (counted b DIRECTIONS 24) 0
+directionsIn b = rows (directionAt b) (counted b DIRECTIONS directionLimit) 0
 
 unfoldable pub profilesIn : List ℕ → List ℕ
-profilesIn b = part b (PROFILES + 1) (counted b PROFILES 8)
+profilesIn b = part b (PROFILES + 1) (counted b PROFILES profileLimit)
 
 unfoldable pub partyAt : List ℕ → ℕ → Party
 partyAt b i = record { code = part b (PARTIES + 1 + i * 17) 16; access = cell b (PARTIES + 17 + i * 17) }
 
 unfoldable pub partiesIn : List ℕ → List Party
-partiesIn b = rows (partyAt b) (counted b PARTIES 64) 0
+partiesIn b = rows (partyAt b) (counted b PARTIES partyLimit) 0
 
 unfoldable pub offeredIn : List ℕ → List ℕ
 offeredIn b = part b OFFERED 800
@@ -81,7 +92,7 @@ rightAt b i =
     }
 
 unfoldable pub rightsIn : List ℕ → List Right
-rightsIn b = rows (rightAt b) (counted b RIGHTS 512) 0
+rightsIn b = rows (rightAt b) (counted b RIGHTS rightLimit) 0
 
 unfoldable pub pairAt : List ℕ → ℕ → Pair
 pairAt b i =
@@ -94,7 +105,7 @@ pairAt b i =
     }
 
 unfoldable pub pairsIn : List ℕ → List Pair
-pairsIn b = rows (pairAt b) (counted b PAIRS 512) 0
+pairsIn b = rows (pairAt b) (counted b PAIRS pairLimit) 0
 
 unfoldable pub bookOf : List ℕ → Book
 bookOf b =

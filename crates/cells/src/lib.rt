@@ -3,11 +3,13 @@ ghost use mathlib.Core.Path.{_≡_};
 ghost use Prim.Native.Nat.{_+_, _*_, _-_, _<_, _≤_};
 ghost use lib.ListN.{length, set, getD};
 ghost use lib.Seq.{sets};
-ghost use Rattle.rules.specs.Book.{place, flag};
+ghost use Rattle.rules.specs.Book.{place, flag, leftAt, directionLimit, rightLimit};
 ghost use Rattle.rules.specs.Refusals.{isMatched};
 ghost use Rattle.cells.specs.Layout.{CELLS, OFFERED, GRANTED, MATCHED};
-ghost use Rattle.cells.specs.View.{Sound, Cells, bookOf, counted, dayHoursIn, directionAt, startedIn, weekdayIn, clockIn, rightAt};
+ghost use Rattle.cells.specs.View.{InHour, Places, Sound, Cells, bookOf, counted, dayHoursIn, directionAt, startedIn, weekdayIn, clockIn, rightAt};
 ghost use Rattle.cells.specs.Stores.{clocked, emptied, withRow};
+use rules::Hour;
+use rules::Session;
 
 // The count of hours of the day.
 const HOURS: usize = 0;
@@ -45,7 +47,24 @@ pub const RIGHTS: usize = 3375;
 // A count, and 512 rows of 13: right, out party, in party, five MW of the out side, five of the in side.
 pub const PAIRS: usize = 7472;
 
-pub type Book = [u32; 14129];
+// How many cells a book has.
+pub const CELLS: usize = 14129;
+
+pub type Book = [u32; CELLS];
+
+// How many rows the tables hold at most.
+pub const DIRECTION_LIMIT: u32 = 24;
+
+pub const PROFILE_LIMIT: u32 = 8;
+
+pub const PARTY_LIMIT: u32 = 64;
+
+pub const RIGHT_LIMIT: u32 = 512;
+
+pub const PAIR_LIMIT: u32 = 512;
+
+// The profiles' rows of MW follow those of the directions.
+pub const PROFILE_ROW: u8 = 24;
 
 // What the search for a row of a table finds: its number.
 pub enum Found {
@@ -113,21 +132,21 @@ pub fn count_in(book: &Book, table: usize, limit: u32) -> u32
 
 // The operators and the model of a direction.
 pub fn out_of(book: &Book, direction: u8) -> u32
-    requires { ⌜ direction < 24 ⌝ }
+    requires { ⌜ direction < directionLimit ⌝ }
     ensures { λ r. ⌜ r ≡ directionAt (now (book .entry)) direction .out ⌝ }
 {
     book[DIRECTIONS + 1 + direction as usize * 3]
 }
 
 pub fn into_of(book: &Book, direction: u8) -> u32
-    requires { ⌜ direction < 24 ⌝ }
+    requires { ⌜ direction < directionLimit ⌝ }
     ensures { λ r. ⌜ r ≡ directionAt (now (book .entry)) direction .into ⌝ }
 {
     book[DIRECTIONS + 2 + direction as usize * 3]
 }
 
 pub fn model_of(book: &Book, direction: u8) -> u32
-    requires { ⌜ direction < 24 ⌝ }
+    requires { ⌜ direction < directionLimit ⌝ }
     ensures { λ r. ⌜ r ≡ directionAt (now (book .entry)) direction .model ⌝ }
 {
     book[DIRECTIONS + 3 + direction as usize * 3]
@@ -135,71 +154,90 @@ pub fn model_of(book: &Book, direction: u8) -> u32
 
 // The holder, the direction and the session of a right.
 pub fn right_holder(book: &Book, right: u16) -> u8
-    requires { ⌜ right < 512 ⌝ }
+    requires { ⌜ right < rightLimit ⌝ }
     ensures { λ r. ⌜ r ≡ rightAt (now (book .entry)) right .holder ⌝ }
 {
     (book[RIGHTS + 1 + right as usize * 8] % 256) as u8
 }
 
 pub fn right_direction(book: &Book, right: u16) -> u8
-    requires { ⌜ right < 512 ⌝ }
+    requires { ⌜ right < rightLimit ⌝ }
     ensures { λ r. ⌜ r ≡ rightAt (now (book .entry)) right .direction ⌝ }
 {
     (book[RIGHTS + 2 + right as usize * 8] % 256) as u8
 }
 
-pub fn right_session(book: &Book, right: u16) -> u8
-    requires { ⌜ right < 512 ⌝ }
-    ensures { λ r. ⌜ r ≡ rightAt (now (book .entry)) right .session ⌝ }
+pub fn right_session(book: &Book, right: u16) -> Session
+    requires { ⌜ right < rightLimit ⌝ }
+    ensures { λ r. ⌜ r .0 ≡ rightAt (now (book .entry)) right .session ⌝ }
 {
-    (book[RIGHTS + 3 + right as usize * 8] % 256) as u8
+    Session((book[RIGHTS + 3 + right as usize * 8] % 256) as u8)
 }
 
-pub fn offered_at(book: &Book, row: u8, hour: u8) -> u32
-    requires { ⌜ (row < 32) × ((1 ≤ hour) × (hour ≤ 25)) ⌝ }
-    ensures { λ r. ⌜ r ≡ getD (now (book .entry)) (OFFERED + place row hour) 0 ⌝ }
+// Where the MW of a row in an hour stand among the offers, and among the granted MW.
+pub fn place_of(row: u8, hour: Hour) -> usize
+    requires { ⌜ InHour row (hour .0) ⌝ }
+    ensures { λ r. ⌜ Places row (hour .0) r ⌝ }
 {
-    book[OFFERED_MW + (row as usize * 25 + (hour as usize - 1))]
+    row as usize * 25 + (hour.0 as usize - 1)
 }
 
-pub fn granted_at(book: &Book, row: u8, hour: u8) -> u32
-    requires { ⌜ (row < 32) × ((1 ≤ hour) × (hour ≤ 25)) ⌝ }
-    ensures { λ r. ⌜ r ≡ getD (now (book .entry)) (GRANTED + place row hour) 0 ⌝ }
+fn offered_at(book: &Book, row: u8, hour: Hour) -> u32
+    requires { ⌜ InHour row (hour .0) ⌝ }
+    ensures { λ r. ⌜ r ≡ getD (now (book .entry)) (OFFERED + place row (hour .0)) 0 ⌝ }
 {
-    book[GRANTED_MW + (row as usize * 25 + (hour as usize - 1))]
+    book[OFFERED_MW + place_of(row, hour)]
+}
+
+pub fn granted_at(book: &Book, row: u8, hour: Hour) -> u32
+    requires { ⌜ InHour row (hour .0) ⌝ }
+    ensures { λ r. ⌜ r ≡ getD (now (book .entry)) (GRANTED + place row (hour .0)) 0 ⌝ }
+{
+    book[GRANTED_MW + place_of(row, hour)]
+}
+
+// What a row has left in an hour.
+pub fn left_at(book: &Book, row: u8, hour: Hour) -> u32
+    requires { ⌜ InHour row (hour .0) ⌝ }
+    ensures { λ r. ⌜ r ≡ leftAt (bookOf (now (book .entry))) row (hour .0) ⌝ }
+{
+    let offered = offered_at(book, row, hour);
+    let granted = granted_at(book, row, hour);
+    rules::less(offered, granted)
 }
 
 // Where the flag of a direction's session stands among the matched sessions.
-fn flag_of(direction: u8, session: u8) -> usize
-    ensures { λ r. ⌜ r ≡ flag direction session ⌝ }
+fn flag_of(direction: u8, session: Session) -> usize
+    ensures { λ r. ⌜ r ≡ flag direction (session .0) ⌝ }
 {
     let first = direction as usize * 25;
-    if session == 0 {
+    let number = session.0;
+    if number == 0 {
         return first;
     }
-    first + (session as usize - 1)
+    first + (number as usize - 1)
 }
 
 // The session of a direction was matched.
-pub fn is_matched(book: &Book, direction: u8, session: u8) -> bool
-    ensures { λ r. ⌜ r ≡ isMatched (bookOf (now (book .entry)) .matched) direction session ⌝ }
+pub fn is_matched(book: &Book, direction: u8, session: Session) -> bool
+    ensures { λ r. ⌜ r ≡ isMatched (bookOf (now (book .entry)) .matched) direction (session .0) ⌝ }
 {
     let at = flag_of(direction, session);
     at < 600 && book[MATCHED_SESSIONS + at] == 1
 }
 
 // ---- stores
-pub fn set_offered(book: &mut Book, row: u8, hour: u8, mw: u16)
-    requires { ⌜ (row < 32) × ((1 ≤ hour) × (hour ≤ 25)) ⌝ }
-    ensures { λ r. ⌜ now (book .exit) ≡ set (now (book .entry)) (OFFERED + place row hour) mw ⌝ }
+pub fn set_offered(book: &mut Book, row: u8, hour: Hour, mw: u16)
+    requires { ⌜ InHour row (hour .0) ⌝ }
+    ensures { λ r. ⌜ now (book .exit) ≡ set (now (book .entry)) (OFFERED + place row (hour .0)) mw ⌝ }
 {
-    book[OFFERED_MW + (row as usize * 25 + (hour as usize - 1))] = mw as u32;
+    book[OFFERED_MW + place_of(row, hour)] = mw as u32;
 }
 
 // The session of a direction is matched.
-pub fn set_matched(book: &mut Book, direction: u8, session: u8)
-    requires { ⌜ (direction < 24) × ((1 ≤ session) × (session ≤ 25)) ⌝ }
-    ensures { λ r. ⌜ now (book .exit) ≡ set (now (book .entry)) (MATCHED + flag direction session) 1 ⌝ }
+pub fn set_matched(book: &mut Book, direction: u8, session: Session)
+    requires { ⌜ (direction < directionLimit) × ((1 ≤ session .0) × (session .0 ≤ 25)) ⌝ }
+    ensures { λ r. ⌜ now (book .exit) ≡ set (now (book .entry)) (MATCHED + flag direction (session .0)) 1 ⌝ }
 {
     book[MATCHED_SESSIONS + flag_of(direction, session)] = 1;
 }
@@ -216,7 +254,7 @@ pub fn set_clock(book: &mut Book, time: u32)
 pub fn clear(book: &mut Book, hours: u8, weekday: u8)
     ensures { λ r. ⌜ now (book .exit) ≡ emptied hours weekday ⌝ }
 {
-    *book = [0u32; 14129];
+    *book = [0u32; CELLS];
     book[HOURS] = hours as u32;
     book[WEEKDAY] = weekday as u32;
 }
@@ -233,7 +271,7 @@ pub fn write_cells(book: &mut Book, at: usize, row: &[u32])
 
 // A row more in a table, after its first `count` rows, which are as long.
 pub fn add_row(book: &mut Book, table: usize, count: u32, row: &[u32])
-    requires { ⌜ ((1 ≤ length (now row)) × (length (now row) ≤ 17)) × ((count < 512) × (table + 1 + (count * length (now row) + length (now row)) ≤ CELLS)) ⌝ }
+    requires { ⌜ ((1 ≤ length (now row)) × (length (now row) ≤ 17)) × ((count < CELLS) × (table + 1 + (count * length (now row) + length (now row)) ≤ CELLS)) ⌝ }
     ensures { λ r. ⌜ now (book .exit) ≡ withRow table count (now (row .entry)) (now (book .entry)) ⌝ }
 {
     let at = table + 1 + count as usize * row.len();

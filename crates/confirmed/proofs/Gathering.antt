@@ -10,6 +10,7 @@ use native.Mathlib.Numerals.{add-one}
 use lib.Dec.{eqb}
 use lib.ListN.{length, take, set}
 use lib.Seq.{take-set-le, take-suc-set}
+use Rattle.rules.specs.Book.{pairLimit}
 use Rattle.rules.specs.Nominations.{lowerTotal}
 use Rattle.cells.specs.Layout.{PAIRS}
 use Rattle.cells.specs.Loops.{rows}
@@ -25,7 +26,7 @@ unfolding pairAt
 pair-row b i x r o n u v = rw (r, o, n, u, v)
 
 -- nothing is gathered, and the whole table is left
-pub gather-start : (b : List ℕ) (r k last : ℕ) → last ≡ counted b PAIRS 512 → totalLower k [] + lowerTotal r k (rows (pairAt b) (last - 0) 0) ≡ lowerTotal r k (bookOf b .pairs)
+pub gather-start : (b : List ℕ) (r k last : ℕ) → last ≡ counted b PAIRS pairLimit → totalLower k [] + lowerTotal r k (rows (pairAt b) (last - 0) 0) ≡ lowerTotal r k (bookOf b .pairs)
 unfolding sumOf bookOf pairsIn
 gather-start b r k last e =
     let s : last - 0 ≡ last = omega arith in

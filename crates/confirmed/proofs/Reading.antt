@@ -7,6 +7,7 @@ use mathlib.Core.List.{List}
 use lib.ListN.{length}
 use borrow.Author.Tests.{le-leb, lt-leb, not-true, not-false}
 use Rattle.rules.specs.Basics.{five}
+use Rattle.rules.specs.Book.{rightLimit}
 use Rattle.rules.specs.Nominations.{pairTaken, pairOf, confirmedAt}
 use Rattle.rules.specs.Refusals.{order, firstOf, isMatched}
 use Rattle.rules.specs.Reads.{readConfirmed, confirmedReadRefuses}
@@ -24,11 +25,11 @@ pub session-is : (b : List ℕ) (r : ℕ) {t : Bool} {d s : ℕ} → t ≡ isMat
 session-is b r e p q = rw (← p, ← q) e
 
 -- no such right
-pub no-right : (b : List ℕ) (r o i : ℕ) → counted b RIGHTS 512 ≤ r → saidConfirmed (refusedRead Unknown) ≡ readConfirmed (bookOf b) r o i
+pub no-right : (b : List ℕ) (r o i : ℕ) → counted b RIGHTS rightLimit ≤ r → saidConfirmed (refusedRead Unknown) ≡ readConfirmed (bookOf b) r o i
 unfolding readConfirmed confirmedReadRefuses firstOf order
 no-right b r o i l = rw (le-leb (length (bookOf b .rights)) r (rw (right-count b) l))
 
-module _ (b : List ℕ) (r o i : ℕ) (l : r < counted b RIGHTS 512) where
+module _ (b : List ℕ) (r o i : ℕ) (l : r < counted b RIGHTS rightLimit) where
   right-there : r < length (bookOf b .rights)
   right-there = rw (right-count b) l
 

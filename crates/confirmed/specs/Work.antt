@@ -5,6 +5,7 @@ use mathlib.Core.Path.{_≡_}
 use mathlib.Core.List.{List}
 use lib.ListN.{getD, set, take}
 use Rattle.rules.specs.Basics.{noMw}
+use Rattle.rules.specs.Book.{pairLimit}
 use Rattle.rules.specs.Nominations.{lower, lowerTotal, confirmedOf}
 use Rattle.rules.specs.declared.Answer.{Answer}
 use Rattle.cells.specs.View.{rightAt, pairAt, bookOf}
@@ -15,7 +16,7 @@ use Rattle.confirmed.specs.declared.PairList.{PairList}
 
 -- the list has the pairs of right r: in each hour the lower sides have the sum of the rules
 pub record Gathered (b : List ℕ) (r : ℕ) (l : PairList) : Type 0 where
-  pub few : l .count ≤ 512
+  pub few : l .count ≤ pairLimit
   pub sums : (k : ℕ) → totalLower k (take (l .count) (l .pairs)) ≡ lowerTotal r k (bookOf b .pairs)
 
 -- the confirmed MW of a pair in hour k, where the list has the pairs of right r

@@ -4,6 +4,7 @@ ghost use mathlib.Core.Bool.{cond};
 ghost use Prim.Native.Nat.{_+_, _*_, _<_, _≤_};
 ghost use lib.Dec.{eqb};
 ghost use Rattle.rules.specs.Basics.{five};
+ghost use Rattle.rules.specs.Book.{pairLimit, rightLimit};
 ghost use Rattle.rules.specs.Nominations.{confirmedOf};
 ghost use Rattle.cells.specs.Layout.{CELLS};
 ghost use Rattle.cells.specs.View.{part, pairAt};
@@ -38,7 +39,7 @@ fn five_at(book: &Book, at: usize) -> [u32; 5]
 
 // Row i of the table of pairs.
 fn pair_in(book: &Book, i: u32) -> Pair
-    requires { ⌜ i < 512 ⌝ }
+    requires { ⌜ i < pairLimit ⌝ }
     ensures { λ r. ⌜ ruled r ≡ pairAt (now (book .entry)) i ⌝ }
 {
     let at = i as usize * 13;
@@ -73,7 +74,7 @@ fn pairs_of(book: &Book, right: u32) -> PairList
     };
     let mut pairs = [none; 512];
     let mut count: usize = 0;
-    let entries = cells::count_in(book, cells::PAIRS, 512);
+    let entries = cells::count_in(book, cells::PAIRS, cells::PAIR_LIMIT);
     for i in 0..entries {
         let pair = pair_in(book, i);
         pairs[count] = pair;
@@ -97,7 +98,7 @@ fn confirmed(held: u32, total: u64, m: u32) -> u32
 
 // The confirmed MW of a pair in the hour at position `hour` of the session, where `list` has the pairs of its right.
 fn confirmed_hour(book: &Book, list: PairList, right: u16, pair: Pair, hour: usize) -> u32
-    requires { ⌜ (list .count ≤ 512) × ((right < 512) × (hour < 5)) ⌝ }
+    requires { ⌜ (list .count ≤ pairLimit) × ((right < rightLimit) × (hour < 5)) ⌝ }
     ensures { λ r. ⌜ r ≡ hourOf (now (book .entry)) list right pair hour ⌝ }
 {
     let pairs = list.pairs;
@@ -110,7 +111,7 @@ fn confirmed_hour(book: &Book, list: PairList, right: u16, pair: Pair, hour: usi
 
 // The confirmed MW of pair number i, which is of the right, in the five hours.
 fn confirmed_five(book: &Book, right: u16, i: u32) -> [u32; 5]
-    requires { ⌜ (right < 512) × (i < 512) ⌝ }
+    requires { ⌜ (right < rightLimit) × (i < pairLimit) ⌝ }
     ensures { λ r. ⌜ r ≡ five (hourIn (now (book .entry)) right i) ⌝ }
 {
     let list = pairs_of(book, right as u32);
@@ -136,7 +137,7 @@ fn refused(answer: Answer) -> ConfirmedRead
 pub fn confirmed_of(book: &Book, right: u16, out: u8, into: u8) -> ConfirmedRead
     ensures { λ r. ⌜ ReadsConfirmed (now (book .entry)) right out into r ⌝ }
 {
-    if cells::count_in(book, cells::RIGHTS, 512) <= right as u32 {
+    if cells::count_in(book, cells::RIGHTS, cells::RIGHT_LIMIT) <= right as u32 {
         return refused(Answer::Unknown);
     }
     let Found::At(i) = pairs::standing_pair(book, right as u32, out as u32, into as u32) else {

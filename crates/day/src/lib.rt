@@ -19,16 +19,6 @@ const MATCHING_OPENS: u32 = 1335;
 
 // ---- sessions
 
-// a - b, or 0.
-fn less(a: u32, b: u32) -> u32
-    ensures { λ r. ⌜ r ≡ a - b ⌝ }
-{
-    if a < b {
-        return 0;
-    }
-    a - b
-}
-
 // The number of the day's last session.
 fn last_session(hours: u8, model: u32) -> u8
     ensures { λ r. ⌜ r ≡ cond (eqb model 1) hours 6 ⌝ }
@@ -58,7 +48,7 @@ fn first_number(hours: u8, model: u32, session: Session) -> u32
     if number <= 1 {
         return 1;
     }
-    less(1 + 4 * (number - 1) + hours as u32, 24)
+    rules::less(1 + 4 * (number - 1) + hours as u32, 24)
 }
 
 pub fn first_hour(hours: u8, model: u32, session: Session) -> Hour
@@ -74,7 +64,7 @@ pub fn first_hour(hours: u8, model: u32, session: Session) -> Hour
 fn hours_in_first(hours: u8) -> u8
     ensures { λ r. ⌜ r ≡ 4 + hours - 24 ⌝ }
 {
-    less(4 + hours as u32, 24) as u8
+    rules::less(4 + hours as u32, 24) as u8
 }
 
 pub fn hours_in(hours: u8, model: u32, session: Session) -> u8

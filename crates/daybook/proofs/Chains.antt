@@ -57,10 +57,10 @@ program-demand3 n day r first last cs rs o k =
     let d = demand3 n day cs in
     let w = rw (f .replies, f .book) at (d .without-refused) in
     record {
-      left-of-direction = λ e hour x p l m q.
-          rw (p .reply) (rw (f .replies, f .book) at (d .left-of-direction e hour (rw (f .replies) l) m q));
-      left-of-profile = λ e hour x p l m q.
-          rw (p .reply) (rw (f .replies, f .book) at (d .left-of-profile e hour (rw (f .replies) l) m q));
+      left-of-direction = λ e hour x p. p .reply ∙ rw (f .replies, f .book) at (d .left-of-direction e hour);
+      left-of-profile = λ e hour x p. p .reply ∙ rw (f .replies, f .book) at (d .left-of-profile e hour);
+      direction-within = λ e hour l m q. rw (f .replies) at (d .direction-within e hour (rw (f .replies) l) m q);
+      profile-within = λ e hour l m q. rw (f .replies) at (d .profile-within e hour (rw (f .replies) l) m q);
       the-rights = λ e x p. p .reply ∙ rw (f .replies, f .book) at (d .the-rights e);
       the-sums = λ e hour l. rw (f .replies) at (d .the-sums e hour (rw (f .replies) l));
       the-confirmed = λ e o′ i x p. p .reply ∙ rw (f .replies, f .book) at (d .the-confirmed e o′ i);

@@ -13,7 +13,7 @@ use Rattle.rules.specs.Calls.{Call}
 use Rattle.rules.specs.Said.{said}
 use Rattle.rules.specs.Opening.{dayHours}
 use Rattle.rules.specs.History.{Key, grantedCalls, grants, directionsOf, profilesOf, lastOffer, bidSum, rightsFrom, rightSum, pairsFrom, lastSide, confirmedBy}
-use Rattle.rules.specs.Demand3.{IsLeft, rightReply}
+use Rattle.rules.specs.Demand3.{leftBy, rightReply}
 use Rattle.rules.specs.declared.Answer.{Answer}
 use Rattle.cells.specs.View.{bookOf}
 use Rattle.answers.specs.declared.LeftRead.{LeftRead}
@@ -46,14 +46,17 @@ module _ (n day : ℕ) (first : List ℕ) (cs : List Call) (rs : List Answer) (l
 
   -- the MW of the granted bids
   abbrev pub mwOf : ℕ → ℕ → ℕ
-  mwOf limit hour = bidSum (dayHours n day) directions profiles limit hour granted
+  mwOf row hour = bidSum (dayHours n day) directions profiles row hour granted
 
   pub record DayHolds : Type 0 where
-    -- capacity left, at each hour of the day
-    pub left-of-direction : (d hour : ℕ) (x : LeftRead) → ReadsDirection last d hour x → d < length directions → 1 ≤ hour → hour ≤ dayHours n day
-        → IsLeft (saidLeft x) (lastOffer d hour 0 granted) (mwOf d hour)
-    pub left-of-profile : (p hour : ℕ) (x : LeftRead) → ReadsProfile last p hour x → p < length profiles → 1 ≤ hour → hour ≤ dayHours n day
-        → IsLeft (saidLeft x) (lastOffer (ofProfile p) hour 0 granted) (mwOf (ofProfile p) hour)
+    -- capacity left, never negative: in each hour of the day the granted MW are within the last granted offer
+    pub left-of-direction : (d hour : ℕ) (x : LeftRead) → ReadsDirection last d hour x
+        → saidLeft x ≡ leftBy (length directions) (dayHours n day) d hour (lastOffer d hour 0 granted) (mwOf d hour)
+    pub left-of-profile : (p hour : ℕ) (x : LeftRead) → ReadsProfile last p hour x
+        → saidLeft x ≡ leftBy (length profiles) (dayHours n day) p hour (lastOffer (ofProfile p) hour 0 granted) (mwOf (ofProfile p) hour)
+    pub direction-within : (d hour : ℕ) → d < length directions → 1 ≤ hour → hour ≤ dayHours n day → mwOf d hour ≤ lastOffer d hour 0 granted
+    pub profile-within : (p hour : ℕ) → p < length profiles → 1 ≤ hour → hour ≤ dayHours n day
+        → mwOf (ofProfile p) hour ≤ lastOffer (ofProfile p) hour 0 granted
     -- the rights, and their sums
     pub the-rights : (r : ℕ) (x : RightRead) → ReadsRight last r x → saidRight x ≡ rightReply rights r
     pub the-sums : (d hour : ℕ) → d < length directions → rightSum (dayHours n day) directions d hour rights ≡ mwOf d hour

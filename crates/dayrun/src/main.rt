@@ -98,7 +98,7 @@ fn answer_all(book: &mut Book) {
 }
 
 fn main() {
-    let mut book = [0u32; 14129];
+    let mut book = [0u32; cells::CELLS];
     stream::open_book(&mut book);
     answer_all(&mut book);
 }

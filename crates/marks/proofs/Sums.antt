@@ -11,7 +11,7 @@ use lib.Dec.{ltb, eqb}
 use lib.ListN.{getD}
 use borrow.Author.Tests.{eqb-true, eqb-false, eq-eqb, ne-eqb}
 use Rattle.rules.specs.Basics.{mapOf}
-use Rattle.rules.specs.Book.{Right, Pair, right}
+use Rattle.rules.specs.Book.{Right, Pair, right, pairLimit, rightLimit}
 use Rattle.rules.specs.Nominations.{sideOf, sideTotal, aboveRight, marks}
 use Rattle.cells.specs.Layout.{RIGHTS, PAIRS}
 use Rattle.cells.specs.Loops.{each, rows}
@@ -60,9 +60,9 @@ total-of b r side hour (suc n) k = ap (λ (x : ℕ). shareOf r side hour (pairAt
 
 -- the loop that adds them up: so far t, and what is left to add from pair k on
 module _ (b : List ℕ) (r side hour : ℕ) where
-  pub sum-start : (n : ℕ) → n ≡ counted b PAIRS 512 → 0 + each (addPair b r side hour) (n - 0) 0 0 ≡ sideTotal r side hour (bookOf b .pairs)
+  pub sum-start : (n : ℕ) → n ≡ counted b PAIRS pairLimit → 0 + each (addPair b r side hour) (n - 0) 0 0 ≡ sideTotal r side hour (bookOf b .pairs)
   unfolding bookOf pairsIn
-  sum-start n e = rw (zero-add _, ← each-start (addPair b r side hour) n 0, e) (total-of b r side hour (counted b PAIRS 512) 0)
+  sum-start n e = rw (zero-add _, ← each-start (addPair b r side hour) n 0, e) (total-of b r side hour (counted b PAIRS pairLimit) 0)
 
   module _ (n k t total : ℕ) (e : t + each (addPair b r side hour) (n - k) k 0 ≡ total) where
     pub sum-next : (s : ℕ) → k < n → s ≡ shareOf r side hour (pairAt b k) → t + s + each (addPair b r side hour) (n - (k + 1)) (k + 1) 0 ≡ total
@@ -78,11 +78,11 @@ module _ (b : List ℕ) (r side hour : ℕ) where
 
 -- ---- above the right
 
-held-is : (b : List ℕ) (r hour : ℕ) → r < counted b RIGHTS 512 → hour < 5 → getD (right (bookOf b .rights) r .mw) hour 0 ≡ cell b (RIGHTS + 4 + r * 8 + hour)
+held-is : (b : List ℕ) (r hour : ℕ) → r < counted b RIGHTS rightLimit → hour < 5 → getD (right (bookOf b .rights) r .mw) hour 0 ≡ cell b (RIGHTS + 4 + r * 8 + hour)
 unfolding rightAt
 held-is b r hour l h = ap (λ (x : Right). getD (x .mw) hour 0) (right-at b r l) ∙ part-at b (RIGHTS + 4 + r * 8) 5 hour h
 
-pub above-is : (b : List ℕ) (r side hour t : ℕ) → r < counted b RIGHTS 512 → hour < 5 → t ≡ sideTotal r side hour (bookOf b .pairs)
+pub above-is : (b : List ℕ) (r side hour t : ℕ) → r < counted b RIGHTS rightLimit → hour < 5 → t ≡ sideTotal r side hour (bookOf b .pairs)
     → ltb (cell b (RIGHTS + 4 + r * 8 + hour)) t ≡ aboveRight (bookOf b .rights) (bookOf b .pairs) r side hour
 unfolding aboveRight
 above-is b r side hour t l h e = rw (e, held-is b r hour l h)

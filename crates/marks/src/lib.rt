@@ -2,6 +2,7 @@
 ghost use mathlib.Core.Path.{_≡_};
 ghost use mathlib.Core.Bool.{cond};
 ghost use Prim.Native.Nat.{_+_, _*_, _<_, _≤_};
+ghost use Rattle.rules.specs.Book.{pairLimit, rightLimit};
 ghost use Rattle.rules.specs.Nominations.{sideTotal, aboveRight, marks};
 ghost use Rattle.cells.specs.Layout.{RIGHTS};
 ghost use Rattle.cells.specs.View.{cell, pairAt, counted, bookOf};
@@ -10,7 +11,7 @@ use cells::Book;
 
 // What a pair adds to a side's total under a right, in an hour of the session.
 fn share_of(book: &Book, i: u32, right: u32, side: u8, hour: u8) -> u32
-    requires { ⌜ (i < 512) × ((side ≤ 1) × (hour < 5)) ⌝ }
+    requires { ⌜ (i < pairLimit) × ((side ≤ 1) × (hour < 5)) ⌝ }
     ensures { λ r. ⌜ r ≡ shareOf right side hour (pairAt (now (book .entry)) i) ⌝ }
 {
     if book[cells::PAIRS + 1 + i as usize * 13] != right {
@@ -24,7 +25,7 @@ fn side_total(book: &Book, right: u32, side: u8, hour: u8) -> u64
     requires { ⌜ (side ≤ 1) × (hour < 5) ⌝ }
     ensures { λ r. ⌜ r ≡ sideTotal right side hour (bookOf (now (book .entry)) .pairs) ⌝ }
 {
-    let count = cells::count_in(book, cells::PAIRS, 512);
+    let count = cells::count_in(book, cells::PAIRS, cells::PAIR_LIMIT);
     let mut total: u64 = 0;
     for i in 0..count {
         total += share_of(book, i, right, side, hour) as u64;
@@ -34,7 +35,7 @@ fn side_total(book: &Book, right: u32, side: u8, hour: u8) -> u64
 
 // The MW of a right in an hour of its session.
 fn held_mw(book: &Book, right: u16, hour: u8) -> u32
-    requires { ⌜ (right < 512) × (hour < 5) ⌝ }
+    requires { ⌜ (right < rightLimit) × (hour < 5) ⌝ }
     ensures { λ r. ⌜ r ≡ cell (now (book .entry)) (RIGHTS + 4 + right * 8 + hour) ⌝ }
 {
     book[cells::RIGHTS + 4 + right as usize * 8 + hour as usize]
@@ -42,7 +43,7 @@ fn held_mw(book: &Book, right: u16, hour: u8) -> u32
 
 // It is above the right.
 fn is_above(book: &Book, right: u16, side: u8, hour: u8) -> bool
-    requires { ⌜ (right < counted (now book) RIGHTS 512) × ((side ≤ 1) × (hour < 5)) ⌝ }
+    requires { ⌜ (right < counted (now book) RIGHTS rightLimit) × ((side ≤ 1) × (hour < 5)) ⌝ }
     ensures { λ r. ⌜ r ≡ aboveRight (bookOf (now (book .entry)) .rights) (bookOf (now (book .entry)) .pairs) right side hour ⌝ }
 {
     let held = held_mw(book, right, hour);
@@ -51,7 +52,7 @@ fn is_above(book: &Book, right: u16, side: u8, hour: u8) -> bool
 
 // The bit of an hour.
 fn mark(book: &Book, right: u16, side: u8, hour: u8) -> u32
-    requires { ⌜ (right < counted (now book) RIGHTS 512) × ((side ≤ 1) × (hour < 5)) ⌝ }
+    requires { ⌜ (right < counted (now book) RIGHTS rightLimit) × ((side ≤ 1) × (hour < 5)) ⌝ }
     ensures { λ r. ⌜ (r ≡ cond (aboveRight (bookOf (now (book .entry)) .rights) (bookOf (now (book .entry)) .pairs) right side hour) 1 0) × (r ≤ 1) ⌝ }
 {
     if is_above(book, right, side, hour) {
@@ -62,7 +63,7 @@ fn mark(book: &Book, right: u16, side: u8, hour: u8) -> u32
 
 // Bit 0 marks the first hour.
 pub fn marks(book: &Book, right: u16, side: u8) -> u32
-    requires { ⌜ (right < counted (now book) RIGHTS 512) × (side ≤ 1) ⌝ }
+    requires { ⌜ (right < counted (now book) RIGHTS rightLimit) × (side ≤ 1) ⌝ }
     ensures { λ r. ⌜ r ≡ marks (bookOf (now (book .entry)) .rights) (bookOf (now (book .entry)) .pairs) right side ⌝ }
 {
     let first = mark(book, right, side, 0);

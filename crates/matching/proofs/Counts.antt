@@ -5,7 +5,7 @@ use mathlib.Core.Path.{_≡_, refl, ap}
 use mathlib.Core.Bool.{Bool, true, false, cond}
 use mathlib.Core.List.{List}
 use lib.Dec.{lit≤}
-use Rattle.rules.specs.Book.{Right}
+use Rattle.rules.specs.Book.{Right, rightLimit}
 use Rattle.rules.specs.Nominations.{countRights}
 use Rattle.cells.specs.Layout.{RIGHTS}
 use Rattle.cells.specs.Loops.{each, rows}
@@ -26,6 +26,6 @@ unfolding countRights rows each tally oneOf isOf
 count-rows b d s zero k = refl
 count-rows b d s (suc n) k = ap (λ (x : ℕ). oneOf d s (rightAt b k) + x) (count-rows b d s n (k + 1))
 
-pub count-is : (b : List ℕ) (d s : ℕ) → countRights d s (bookOf b .rights) ≡ each (tally b d s) (counted b RIGHTS 512) 0 0
+pub count-is : (b : List ℕ) (d s : ℕ) → countRights d s (bookOf b .rights) ≡ each (tally b d s) (counted b RIGHTS rightLimit) 0 0
 unfolding bookOf rightsIn
-count-is b d s = count-rows b d s (counted b RIGHTS 512) 0
+count-is b d s = count-rows b d s (counted b RIGHTS rightLimit) 0

@@ -8,7 +8,7 @@ use native.Mathlib.Omega.{arith}
 use lib.Dec.{leb, ltb, eqb}
 use borrow.Author.Tests.{leb-true, ltb-true, not-false}
 use Rattle.rules.specs.Sessions.{sessionThere}
-use Rattle.rules.specs.Book.{Book, modelOf}
+use Rattle.rules.specs.Book.{Book, modelOf, directionLimit}
 use Rattle.rules.specs.Calls.{Match}
 use Rattle.rules.specs.Refusals.{order, firstOf, setupShut, taken, wrongHours, noAccess, notOwner, full, below, shortageOf, directionUnknown, sessionUnknown, refuses}
 use Rattle.rules.proofs.Bools.{or-left, or-right, and-left, and-right}
@@ -36,7 +36,7 @@ session-within n model s h e =
 
 -- direction and session are there
 pub record KnownMatch (b : List ℕ) (d s : ℕ) : Type 0 where
-  pub direction : d < 24
+  pub direction : d < directionLimit
   pub session : (1 ≤ s) × (s ≤ 25)
   pub model-is : modelOf (bookOf b) d ≡ directionAt b d .model
 

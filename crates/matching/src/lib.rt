@@ -4,6 +4,7 @@ ghost use mathlib.Core.Bool.{_||_};
 ghost use Prim.Native.Nat.{_<_};
 ghost use lib.Dec.{ltb};
 ghost use Rattle.rules.specs.Windows.{latest, matchingOutside};
+ghost use Rattle.rules.specs.Book.{rightLimit};
 ghost use Rattle.rules.specs.Calls.{Match};
 ghost use Rattle.rules.specs.Nominations.{countRights};
 ghost use Rattle.rules.specs.Refusals.{directionUnknown, sessionUnknown, number};
@@ -59,7 +60,7 @@ fn match_verdict(book: &Book, time: u32, direction: u8, session: Session) -> Ver
     if outside(book, model, session, time) {
         return Verdict::No(Answer::Gate);
     }
-    if cells::is_matched(book, direction, session.0) {
+    if cells::is_matched(book, direction, session) {
         return Verdict::No(Answer::Cycle);
     }
     Verdict::Clear
@@ -67,20 +68,21 @@ fn match_verdict(book: &Book, time: u32, direction: u8, session: Session) -> Ver
 
 // ---- the count of rights
 
-fn is_right_of_session(book: &Book, i: u32, direction: u8, session: u8) -> bool
-    requires { ⌜ i < 512 ⌝ }
-    ensures { λ r. ⌜ r ≡ isOf direction session (rightAt (now (book .entry)) i) ⌝ }
+fn is_right_of_session(book: &Book, i: u32, direction: u8, session: Session) -> bool
+    requires { ⌜ i < rightLimit ⌝ }
+    ensures { λ r. ⌜ r ≡ isOf direction (session .0) (rightAt (now (book .entry)) i) ⌝ }
 {
     if cells::right_direction(book, i as u16) != direction {
         return false;
     }
-    cells::right_session(book, i as u16) == session
+    let stands = cells::right_session(book, i as u16);
+    stands.0 == session.0
 }
 
 // 1 for a right of the session, else 0.
-fn count_right(book: &Book, i: u32, direction: u8, session: u8) -> u32
-    requires { ⌜ i < 512 ⌝ }
-    ensures { λ r. ⌜ r ≡ oneOf direction session (rightAt (now (book .entry)) i) ⌝ }
+fn count_right(book: &Book, i: u32, direction: u8, session: Session) -> u32
+    requires { ⌜ i < rightLimit ⌝ }
+    ensures { λ r. ⌜ r ≡ oneOf direction (session .0) (rightAt (now (book .entry)) i) ⌝ }
 {
     if is_right_of_session(book, i, direction, session) {
         return 1;
@@ -89,10 +91,10 @@ fn count_right(book: &Book, i: u32, direction: u8, session: u8) -> u32
 }
 
 // All rights of a direction and session, nominated or not.
-fn count_rights(book: &Book, direction: u8, session: u8) -> u32
-    ensures { λ r. ⌜ r ≡ countRights direction session (bookOf (now (book .entry)) .rights) ⌝ }
+fn count_rights(book: &Book, direction: u8, session: Session) -> u32
+    ensures { λ r. ⌜ r ≡ countRights direction (session .0) (bookOf (now (book .entry)) .rights) ⌝ }
 {
-    let rights = cells::count_in(book, cells::RIGHTS, 512);
+    let rights = cells::count_in(book, cells::RIGHTS, cells::RIGHT_LIMIT);
     let mut count = 0;
     for i in 0..rights {
         count += count_right(book, i, direction, session);
@@ -103,9 +105,9 @@ fn count_rights(book: &Book, direction: u8, session: u8) -> u32
 // ---- a granted matching
 
 // The stores: the count of the session's rights.
-fn place_match(book: &mut Book, time: u32, direction: u8, session: u8) -> u32
-    requires { ⌜ number (bookOf (now book)) (Match time direction session) ≡ 0 ⌝ }
-    ensures { λ r. ⌜ Placed (now (book .entry)) time direction session r (now (book .exit)) ⌝ }
+fn place_match(book: &mut Book, time: u32, direction: u8, session: Session) -> u32
+    requires { ⌜ number (bookOf (now book)) (Match time direction (session .0)) ≡ 0 ⌝ }
+    ensures { λ r. ⌜ Placed (now (book .entry)) time direction (session .0) r (now (book .exit)) ⌝ }
 {
     let cells = cells::cells_in(book);
     let count = count_rights(book, direction, session);
@@ -117,10 +119,9 @@ fn place_match(book: &mut Book, time: u32, direction: u8, session: u8) -> u32
 pub fn match_session(book: &mut Book, time: u32, direction: u8, session: Session) -> Answer
     ensures { λ r. ⌜ Answers (now (book .entry)) (Match time direction (session .0)) r (now (book .exit)) ⌝ }
 {
-    let number = session.0;
     let verdict = match_verdict(book, time, direction, session);
     match verdict {
         Verdict::No(answer) => answer,
-        Verdict::Clear => Answer::Granted(place_match(book, time, direction, number)),
+        Verdict::Clear => Answer::Granted(place_match(book, time, direction, session)),
     }
 }

@@ -11,7 +11,7 @@ use lib.Seq.{sets, length-sets, set-append-seam, getD-append-seam}
 use borrow.Author.Tests.{eq-eqb, ltb-false}
 use Rattle.rules.specs.Basics.{has, noMw, anyAbove}
 use Rattle.rules.specs.Windows.{latest}
-use Rattle.rules.specs.Book.{Book, Pair}
+use Rattle.rules.specs.Book.{Book, Pair, pairLimit, rightLimit}
 use Rattle.rules.specs.Calls.{Nominate}
 use Rattle.rules.specs.Said.{said}
 use Rattle.rules.specs.Nominations.{outOf, intoOf, isPairOf, pairTaken, emptyPair, withSide, withPair, marks}
@@ -40,9 +40,9 @@ use Rattle.nominations.specs.Work.{Opened, PairThere, Placed}
 
 -- what a nomination that nothing refuses may rely on
 pub record Ready (b : List ℕ) (p o r side : ℕ) : Type 0 where
-  pub known : r < counted b RIGHTS 512
+  pub known : r < counted b RIGHTS rightLimit
   pub side-there : side ≤ 1
-  pub room : (leb 512 (length (bookOf b .pairs)) && not (pairTaken r (outOf p o side) (intoOf p o side) (bookOf b .pairs))) ≡ false
+  pub room : (leb pairLimit (length (bookOf b .pairs)) && not (pairTaken r (outOf p o side) (intoOf p o side) (bookOf b .pairs))) ≡ false
 
 pub ready : (b : List ℕ) (t p o r side : ℕ) (mw : List ℕ) → number (bookOf b) (Nominate t p o r side mw) ≡ 0 → Ready b p o r side
 unfolding order has refuses field unknown full
@@ -73,11 +73,11 @@ found-there b r o i k u e =
 
 module _ (b : List ℕ) (r o i : ℕ) (e : standingIn b r o i ≡ Nothing) where
   -- none was found, and there is room for one
-  pub room-left : (leb 512 (length (bookOf b .pairs)) && not (pairTaken r o i (bookOf b .pairs))) ≡ false → counted b PAIRS 512 < 512
-  room-left h = rw (pair-count b) at (has-room (length (bookOf b .pairs)) 512 (not (pairTaken r o i (bookOf b .pairs))) h (rw (standing-none b r o i e .none)))
+  pub room-left : (leb pairLimit (length (bookOf b .pairs)) && not (pairTaken r o i (bookOf b .pairs))) ≡ false → counted b PAIRS pairLimit < pairLimit
+  room-left h = rw (pair-count b) at (has-room (length (bookOf b .pairs)) pairLimit (not (pairTaken r o i (bookOf b .pairs))) h (rw (standing-none b r o i e .none)))
 
   -- a new one
-  module _ (n : ℕ) (b′ : List ℕ) (l : counted b PAIRS 512 < 512) (w : Opened b r o i n b′) where
+  module _ (n : ℕ) (b′ : List ℕ) (l : counted b PAIRS pairLimit < pairLimit) (w : Opened b r o i n b′) where
     here : n ≡ length (bookOf b .pairs)
     here = w .number-is ∙ sym (pair-count b)
 
@@ -87,7 +87,7 @@ module _ (b : List ℕ) (r o i : ℕ) (e : standingIn b r o i ≡ Nothing) where
     opened-pairs : bookOf b′ .pairs ≡ bookOf b .pairs ++ (emptyPair r o i ∷ [])
     opened-pairs = ap (λ (x : Book). x .pairs) opened-book
 
-    opened-row : n < counted b′ PAIRS 512
+    opened-row : n < counted b′ PAIRS pairLimit
     opened-row =
         let c = pair-count b′ in
         let m : length (bookOf b′ .pairs) ≡ length (bookOf b .pairs) + 1 = ap length opened-pairs ∙ length-append (bookOf b .pairs) (emptyPair r o i ∷ []) in
@@ -119,7 +119,7 @@ side-written b b′ at k side mw size e f = f ∙ rw e (ap (λ (x : List ℕ). s
 -- ---- all stores together
 
 pub room-there : (b : List ℕ) (p o r side out into : ℕ) → Ready b p o r side → out ≡ outOf p o side → into ≡ intoOf p o side
-    → (leb 512 (length (bookOf b .pairs)) && not (pairTaken r out into (bookOf b .pairs))) ≡ false
+    → (leb pairLimit (length (bookOf b .pairs)) && not (pairTaken r out into (bookOf b .pairs))) ≡ false
 room-there b p o r side out into ok po pi = rw (po, pi) (ok .room)
 
 module _ (b : List ℕ) (t p o r side : ℕ) (mw : List ℕ) (ok : Ready b p o r side) (size : length mw ≡ 5) (out into k : ℕ) (b1 b2 b3 : List ℕ)
@@ -140,7 +140,7 @@ module _ (b : List ℕ) (t p o r side : ℕ) (mw : List ℕ) (ok : Ready b p o r
   all-book = ap bookOf e3 ∙ clock-set b2 t (ap length e2 ∙ length-sets b1 _ mw ∙ s .count) ∙ ap (λ (x : Book). withClock x t) side-book
 
   -- the right is still there
-  pub right-left : r < counted b3 RIGHTS 512
+  pub right-left : r < counted b3 RIGHTS rightLimit
   right-left =
       let m : length (bookOf b3 .rights) ≡ length (bookOf b .rights) = ap (λ (x : Book). length (x .rights)) all-book in
       let c = right-count b in

@@ -11,7 +11,7 @@ use borrow.Author.Tests.{leb-true, le-leb, lt-leb, eq-eqb, ne-eqb}
 use Rattle.rules.specs.Basics.{bit, anyAbove}
 use Rattle.rules.specs.Sessions.{hoursIn}
 use Rattle.rules.specs.Windows.{nominationOutside}
-use Rattle.rules.specs.Book.{Direction, Right, direction, party, modelOf}
+use Rattle.rules.specs.Book.{Direction, Right, direction, party, modelOf, directionLimit, pairLimit, partyLimit, rightLimit}
 use Rattle.rules.specs.Nominations.{pairTaken}
 use Rattle.rules.specs.Refusals.{directionUnknown, rightUnknown, hoursLacking}
 use Rattle.cells.specs.Layout.{DIRECTIONS, PARTIES, RIGHTS, PAIRS}
@@ -20,7 +20,7 @@ use Rattle.cells.proofs.Views.{access-at, direction-at, right-count, right-at, 
 use Rattle.cells.specs.declared.Found.the-variants.{At, Nothing}
 use Rattle.pairs.specs.Search.{standingIn}
 use Rattle.pairs.proofs.Searches.{standing-at, standing-none}
-use Rattle.nominations.specs.Work.{holderOf, directionOf, sessionOf, operatorOf}
+use Rattle.nominations.specs.Work.{rightHolder, rightDirection, rightSession, operatorOf}
 
 -- ---- the parties
 
@@ -46,59 +46,59 @@ module _ (b : List ℕ) (d : ℕ) where
       go true = refl
       go false = refl
 
-  pub out-operator : (side : ℕ) → d < counted b DIRECTIONS 24 → side ≡ 0 → directionAt b d .out ≡ operatorOf (bookOf b) d side
+  pub out-operator : (side : ℕ) → d < counted b DIRECTIONS directionLimit → side ≡ 0 → directionAt b d .out ≡ operatorOf (bookOf b) d side
   out-operator side l e = rw (eq-eqb side 0 e, direction-at b d l)
 
-  pub in-operator : (side : ℕ) → d < counted b DIRECTIONS 24 → side ≢ 0 → directionAt b d .into ≡ operatorOf (bookOf b) d side
+  pub in-operator : (side : ℕ) → d < counted b DIRECTIONS directionLimit → side ≢ 0 → directionAt b d .into ≡ operatorOf (bookOf b) d side
   in-operator side l e = rw (ne-eqb side 0 e, direction-at b d l)
 
 -- ---- a right that is there
 
-pub right-unknown : (b : List ℕ) (r n : ℕ) → n ≡ counted b RIGHTS 512 → leb n r ≡ rightUnknown (bookOf b) r
+pub right-unknown : (b : List ℕ) (r n : ℕ) → n ≡ counted b RIGHTS rightLimit → leb n r ≡ rightUnknown (bookOf b) r
 right-unknown b r n e = rw (right-count b, e)
 
-module _ (b : List ℕ) (r : ℕ) (l : r < counted b RIGHTS 512) where
-  pub direction-is : (d : ℕ) → d ≡ rightAt b r .direction → d ≡ directionOf (bookOf b) r
+module _ (b : List ℕ) (r : ℕ) (l : r < counted b RIGHTS rightLimit) where
+  pub direction-is : (d : ℕ) → d ≡ rightAt b r .direction → d ≡ rightDirection (bookOf b) r
   direction-is d e = e ∙ ap (λ (x : Right). x .direction) (sym (right-at b r l))
 
-  session-is : (s : ℕ) → s ≡ rightAt b r .session → s ≡ sessionOf (bookOf b) r
+  session-is : (s : ℕ) → s ≡ rightAt b r .session → s ≡ rightSession (bookOf b) r
   session-is s e = e ∙ ap (λ (x : Right). x .session) (sym (right-at b r l))
 
-  holder-is : (h : ℕ) → h ≡ rightAt b r .holder → h ≡ holderOf (bookOf b) r
+  holder-is : (h : ℕ) → h ≡ rightAt b r .holder → h ≡ rightHolder (bookOf b) r
   holder-is h e = e ∙ ap (λ (x : Right). x .holder) (sym (right-at b r l))
 
-  pub outside-is : (n w m s t : ℕ) (x : Bool) → n ≡ dayHoursIn b → w ≡ weekdayIn b → m ≡ modelOf (bookOf b) (directionOf (bookOf b) r) → s ≡ rightAt b r .session
-      → x ≡ nominationOutside n w m s t → x ≡ nominationOutside (bookOf b .hours) (bookOf b .weekday) (modelOf (bookOf b) (directionOf (bookOf b) r)) (sessionOf (bookOf b) r) t
+  pub outside-is : (n w m s t : ℕ) (x : Bool) → n ≡ dayHoursIn b → w ≡ weekdayIn b → m ≡ modelOf (bookOf b) (rightDirection (bookOf b) r) → s ≡ rightAt b r .session
+      → x ≡ nominationOutside n w m s t → x ≡ nominationOutside (bookOf b .hours) (bookOf b .weekday) (modelOf (bookOf b) (rightDirection (bookOf b) r)) (rightSession (bookOf b) r) t
   unfolding bookOf
   outside-is n w m s t x p q u v e = e ∙ rw (p, q, u, session-is s v)
 
-  pub lacking-is : (n m s k : ℕ) (mw : List ℕ) (x : Bool) → n ≡ dayHoursIn b → m ≡ modelOf (bookOf b) (directionOf (bookOf b) r) → s ≡ rightAt b r .session → k ≡ hoursIn n m s
-      → x ≡ anyAbove 0 (drop k mw) → x ≡ hoursLacking (bookOf b) (directionOf (bookOf b) r) (sessionOf (bookOf b) r) mw
+  pub lacking-is : (n m s k : ℕ) (mw : List ℕ) (x : Bool) → n ≡ dayHoursIn b → m ≡ modelOf (bookOf b) (rightDirection (bookOf b) r) → s ≡ rightAt b r .session → k ≡ hoursIn n m s
+      → x ≡ anyAbove 0 (drop k mw) → x ≡ hoursLacking (bookOf b) (rightDirection (bookOf b) r) (rightSession (bookOf b) r) mw
   unfolding bookOf hoursLacking
   lacking-is n m s k mw x p u v q e = e ∙ rw (q, p, u, session-is s v)
 
   -- the operator of the sender's side
-  pub access-is : (p side d o : ℕ) (x : Bool) → p < counted b PARTIES 64 → d ≡ rightAt b r .direction → o ≡ operatorOf (bookOf b) d side → x ≡ bit (cell b (PARTIES + 17 + p * 17)) o
-      → not x ≡ not (bit (party (bookOf b .parties) p .access) (operatorOf (bookOf b) (directionOf (bookOf b) r) side))
+  pub access-is : (p side d o : ℕ) (x : Bool) → p < counted b PARTIES partyLimit → d ≡ rightAt b r .direction → o ≡ operatorOf (bookOf b) d side → x ≡ bit (cell b (PARTIES + 17 + p * 17)) o
+      → not x ≡ not (bit (party (bookOf b .parties) p .access) (operatorOf (bookOf b) (rightDirection (bookOf b) r) side))
   access-is p side d o x m q u e = rw (access-at b p m, e, u, direction-is d q)
 
-  pub sender-holds : (h s o : ℕ) → h ≡ rightAt b r .holder → h ≡ s → false ≡ not (eqb (holderOf (bookOf b) r) s || eqb (holderOf (bookOf b) r) o)
+  pub sender-holds : (h s o : ℕ) → h ≡ rightAt b r .holder → h ≡ s → false ≡ not (eqb (rightHolder (bookOf b) r) s || eqb (rightHolder (bookOf b) r) o)
   sender-holds h s o q e = rw (← holder-is h q, eq-eqb h s e)
 
-  pub other-holds : (h s o : ℕ) → h ≡ rightAt b r .holder → h ≢ s → not (eqb h o) ≡ not (eqb (holderOf (bookOf b) r) s || eqb (holderOf (bookOf b) r) o)
+  pub other-holds : (h s o : ℕ) → h ≡ rightAt b r .holder → h ≢ s → not (eqb h o) ≡ not (eqb (rightHolder (bookOf b) r) s || eqb (rightHolder (bookOf b) r) o)
   other-holds h s o q e = rw (← holder-is h q, ne-eqb h s e)
 
 -- ---- room for a new pair
 
-module _ (b : List ℕ) (r o i n : ℕ) (e : n ≡ counted b PAIRS 512) where
+module _ (b : List ℕ) (r o i n : ℕ) (e : n ≡ counted b PAIRS pairLimit) where
   abbrev isFull : Bool
-  isFull = leb 512 (length (bookOf b .pairs)) && not (pairTaken r o i (bookOf b .pairs))
+  isFull = leb pairLimit (length (bookOf b .pairs)) && not (pairTaken r o i (bookOf b .pairs))
 
-  pub not-full : n < 512 → false ≡ isFull
-  not-full l = rw (pair-count b, lt-leb 512 (counted b PAIRS 512) (rw (← e) l))
+  pub not-full : n < pairLimit → false ≡ isFull
+  not-full l = rw (pair-count b, lt-leb pairLimit (counted b PAIRS pairLimit) (rw (← e) l))
 
-  pub full-there : (k : ℕ) → 512 ≤ n → standingIn b r o i ≡ At k → false ≡ isFull
-  full-there k l f = rw (pair-count b, le-leb 512 (counted b PAIRS 512) (rw (← e) l), standing-at b r o i k f .there)
+  pub full-there : (k : ℕ) → pairLimit ≤ n → standingIn b r o i ≡ At k → false ≡ isFull
+  full-there k l f = rw (pair-count b, le-leb pairLimit (counted b PAIRS pairLimit) (rw (← e) l), standing-at b r o i k f .there)
 
-  pub full-none : 512 ≤ n → standingIn b r o i ≡ Nothing → true ≡ isFull
-  full-none l f = rw (pair-count b, le-leb 512 (counted b PAIRS 512) (rw (← e) l), standing-none b r o i f .none)
+  pub full-none : pairLimit ≤ n → standingIn b r o i ≡ Nothing → true ≡ isFull
+  full-none l f = rw (pair-count b, le-leb pairLimit (counted b PAIRS pairLimit) (rw (← e) l), standing-none b r o i f .none)

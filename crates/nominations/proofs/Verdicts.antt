@@ -7,7 +7,7 @@ use mathlib.Core.List.{List, [], _∷_}
 use lib.Dec.{leb}
 use lib.ListN.{length}
 use borrow.Author.Tests.{leb-false}
-use Rattle.rules.specs.Book.{Book}
+use Rattle.rules.specs.Book.{Book, pairLimit, partyLimit, rightLimit}
 use Rattle.rules.specs.Calls.{Nominate}
 use Rattle.rules.specs.Nominations.{outOf, intoOf, pairTaken}
 use Rattle.rules.specs.Refusals.{order, firstOf, setupShut, taken, cycle, below, shortageOf, refuses, partyUnknown, rightUnknown}
@@ -24,8 +24,8 @@ nomination-left b t p o r side mw = record { number-is = refl }
 
 -- the sender and the right are there
 pub record KnownNomination (b : List ℕ) (p r : ℕ) : Type 0 where
-  pub sender : p < counted b PARTIES 64
-  pub right : r < counted b RIGHTS 512
+  pub sender : p < counted b PARTIES partyLimit
+  pub right : r < counted b RIGHTS rightLimit
 
 pub known-nomination : (b : List ℕ) (p o r : ℕ) → (partyUnknown (bookOf b) p || partyUnknown (bookOf b) o || rightUnknown (bookOf b) r) ≡ false → KnownNomination b p r
 known-nomination b p o r e =
@@ -37,6 +37,6 @@ known-nomination b p o r e =
 
 -- the pair of the test is that of the nomination
 pub full-is : (b : List ℕ) (p o r side : ℕ) {out into : ℕ} {x : Bool} → out ≡ outOf p o side → into ≡ intoOf p o side
-    → (leb 512 (length (bookOf b .pairs)) && not (pairTaken r out into (bookOf b .pairs))) ≡ x
-    → (leb 512 (length (bookOf b .pairs)) && not (pairTaken r (outOf p o side) (intoOf p o side) (bookOf b .pairs))) ≡ x
+    → (leb pairLimit (length (bookOf b .pairs)) && not (pairTaken r out into (bookOf b .pairs))) ≡ x
+    → (leb pairLimit (length (bookOf b .pairs)) && not (pairTaken r (outOf p o side) (intoOf p o side) (bookOf b .pairs))) ≡ x
 full-is b p o r side e f h = rw (e, f) at h

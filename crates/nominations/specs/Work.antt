@@ -7,7 +7,7 @@ use mathlib.Core.List.{List, [], _∷_, _++_}
 use lib.Dec.{eqb}
 use lib.ListN.{length, set}
 use Rattle.rules.specs.Basics.{noMw}
-use Rattle.rules.specs.Book.{Book, right, direction}
+use Rattle.rules.specs.Book.{Book, right, direction, pairLimit}
 use Rattle.rules.specs.Calls.{Nominate}
 use Rattle.rules.specs.Nominations.{withSide, withPair}
 use Rattle.rules.specs.Effects.{effect}
@@ -19,14 +19,14 @@ use Rattle.cells.specs.Updates.{withPairs}
 
 -- ---- a right's holder, direction and session, by number
 
-abbrev pub holderOf : Book → ℕ → ℕ
-holderOf b r = right (b .rights) r .holder
+abbrev pub rightHolder : Book → ℕ → ℕ
+rightHolder b r = right (b .rights) r .holder
 
-abbrev pub directionOf : Book → ℕ → ℕ
-directionOf b r = right (b .rights) r .direction
+abbrev pub rightDirection : Book → ℕ → ℕ
+rightDirection b r = right (b .rights) r .direction
 
-abbrev pub sessionOf : Book → ℕ → ℕ
-sessionOf b r = right (b .rights) r .session
+abbrev pub rightSession : Book → ℕ → ℕ
+rightSession b r = right (b .rights) r .session
 
 -- the operator of a direction on a side
 abbrev pub operatorOf : Book → ℕ → ℕ → ℕ
@@ -37,13 +37,13 @@ operatorOf b d side = cond (eqb side 0) (direction (b .directions) d .out) (dire
 -- a new pair with no MW
 pub record Opened (b : List ℕ) (r o i n : ℕ) (b′ : List ℕ) : Type 0 where
   pub cells : Cells b
-  pub number-is : n ≡ counted b PAIRS 512
+  pub number-is : n ≡ counted b PAIRS pairLimit
   pub cells-are : b′ ≡ withRow PAIRS n (r ∷ o ∷ i ∷ (noMw ++ noMw)) b
 
 -- the pair stands at row k, and its side is all that is left to replace
 pub record PairThere (b : List ℕ) (r o i k : ℕ) (b′ : List ℕ) : Type 0 where
   pub count : length b′ ≡ CELLS
-  pub row : k < counted b′ PAIRS 512
+  pub row : k < counted b′ PAIRS pairLimit
   pub rest : bookOf b′ ≡ withPairs (bookOf b) (bookOf b′ .pairs)
   pub pair : (side : ℕ) (mw : List ℕ) → set (bookOf b′ .pairs) k (withSide side mw (pairAt b′ k)) ≡ withPair r o i side mw (bookOf b .pairs)
 

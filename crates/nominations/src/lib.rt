@@ -7,19 +7,18 @@ ghost use lib.ListN.{length};
 ghost use lib.Seq.{sets};
 ghost use Rattle.rules.specs.Basics.{bit, anyAbove};
 ghost use Rattle.rules.specs.Windows.{latest, nominationOutside};
-ghost use Rattle.rules.specs.Book.{party, modelOf};
+ghost use Rattle.rules.specs.Book.{party, modelOf, pairLimit, partyLimit, rightLimit};
 ghost use Rattle.rules.specs.Calls.{Nominate};
 ghost use Rattle.rules.specs.Nominations.{outOf, intoOf, pairTaken};
 ghost use Rattle.rules.specs.Refusals.{partyUnknown, rightUnknown, hoursLacking, number};
 ghost use Rattle.cells.specs.Layout.{PARTIES, RIGHTS, PAIRS};
 ghost use Rattle.cells.specs.View.{bookOf, counted};
 ghost use Rattle.answers.specs.Promises.{Judged, Answers};
-ghost use Rattle.nominations.specs.Work.{holderOf, directionOf, sessionOf, operatorOf, Opened, PairThere, Placed};
+ghost use Rattle.nominations.specs.Work.{rightHolder, rightDirection, rightSession, operatorOf, Opened, PairThere, Placed};
 use answers::Verdict;
 use cells::Book;
 use cells::Found;
 use rules::Answer;
-use rules::Session;
 
 // ---- the parties of a nomination
 
@@ -66,8 +65,8 @@ fn operator_there(book: &Book, direction: u8, side: u8) -> u32
 }
 
 fn right_model(book: &Book, right: u16) -> u32
-    requires { ⌜ right < counted (now book) RIGHTS 512 ⌝ }
-    ensures { λ r. ⌜ r ≡ modelOf (bookOf (now (book .entry))) (directionOf (bookOf (now (book .entry))) right) ⌝ }
+    requires { ⌜ right < counted (now book) RIGHTS rightLimit ⌝ }
+    ensures { λ r. ⌜ r ≡ modelOf (bookOf (now (book .entry))) (rightDirection (bookOf (now (book .entry))) right) ⌝ }
 {
     let direction = cells::right_direction(book, right);
     model_there(book, direction)
@@ -94,37 +93,37 @@ fn nomination_unknown(book: &Book, sender: u8, other: u8, right: u16) -> bool
     if answers::party_unknown(book, other) {
         return true;
     }
-    cells::count_in(book, cells::RIGHTS, 512) <= right as u32
+    cells::count_in(book, cells::RIGHTS, cells::RIGHT_LIMIT) <= right as u32
 }
 
 // Outside the window of the right's session.
 fn outside(book: &Book, right: u16, time: u32) -> bool
-    requires { ⌜ right < counted (now book) RIGHTS 512 ⌝ }
-    ensures { λ r. ⌜ r ≡ nominationOutside (bookOf (now (book .entry)) .hours) (bookOf (now (book .entry)) .weekday) (modelOf (bookOf (now (book .entry))) (directionOf (bookOf (now (book .entry))) right)) (sessionOf (bookOf (now (book .entry))) right) time ⌝ }
+    requires { ⌜ right < counted (now book) RIGHTS rightLimit ⌝ }
+    ensures { λ r. ⌜ r ≡ nominationOutside (bookOf (now (book .entry)) .hours) (bookOf (now (book .entry)) .weekday) (modelOf (bookOf (now (book .entry))) (rightDirection (bookOf (now (book .entry))) right)) (rightSession (bookOf (now (book .entry))) right) time ⌝ }
 {
     let hours = cells::hours(book);
     let weekday = cells::weekday(book);
     let model = right_model(book, right);
     let session = cells::right_session(book, right);
-    day::nomination_outside(hours, weekday, model, Session(session), time)
+    day::nomination_outside(hours, weekday, model, session, time)
 }
 
 // MW for an hour that the right's session lacks.
 fn lacking_hours(book: &Book, right: u16, mw: [u16; 5]) -> bool
-    requires { ⌜ right < counted (now book) RIGHTS 512 ⌝ }
-    ensures { λ r. ⌜ r ≡ hoursLacking (bookOf (now (book .entry))) (directionOf (bookOf (now (book .entry))) right) (sessionOf (bookOf (now (book .entry))) right) mw ⌝ }
+    requires { ⌜ right < counted (now book) RIGHTS rightLimit ⌝ }
+    ensures { λ r. ⌜ r ≡ hoursLacking (bookOf (now (book .entry))) (rightDirection (bookOf (now (book .entry))) right) (rightSession (bookOf (now (book .entry))) right) mw ⌝ }
 {
     let hours = cells::hours(book);
     let model = right_model(book, right);
     let session = cells::right_session(book, right);
-    let count = day::hours_in(hours, model, Session(session));
+    let count = day::hours_in(hours, model, session);
     capacity::any_above(0, mw, count)
 }
 
 // The sender lacks access to the operator of its side.
 fn no_access(book: &Book, sender: u8, right: u16, side: u8) -> bool
-    requires { ⌜ (sender < counted (now book) PARTIES 64) × (right < counted (now book) RIGHTS 512) ⌝ }
-    ensures { λ r. ⌜ r ≡ not (bit (party (bookOf (now (book .entry)) .parties) sender .access) (operatorOf (bookOf (now (book .entry))) (directionOf (bookOf (now (book .entry))) right) side)) ⌝ }
+    requires { ⌜ (sender < counted (now book) PARTIES partyLimit) × (right < counted (now book) RIGHTS rightLimit) ⌝ }
+    ensures { λ r. ⌜ r ≡ not (bit (party (bookOf (now (book .entry)) .parties) sender .access) (operatorOf (bookOf (now (book .entry))) (rightDirection (bookOf (now (book .entry))) right) side)) ⌝ }
 {
     let map = book[cells::PARTIES + 17 + sender as usize * 17];
     let direction = cells::right_direction(book, right);
@@ -134,8 +133,8 @@ fn no_access(book: &Book, sender: u8, right: u16, side: u8) -> bool
 
 // Neither party holds the right.
 fn not_owner(book: &Book, sender: u8, other: u8, right: u16) -> bool
-    requires { ⌜ right < counted (now book) RIGHTS 512 ⌝ }
-    ensures { λ r. ⌜ r ≡ not (eqb (holderOf (bookOf (now (book .entry))) right) sender || eqb (holderOf (bookOf (now (book .entry))) right) other) ⌝ }
+    requires { ⌜ right < counted (now book) RIGHTS rightLimit ⌝ }
+    ensures { λ r. ⌜ r ≡ not (eqb (rightHolder (bookOf (now (book .entry))) right) sender || eqb (rightHolder (bookOf (now (book .entry))) right) other) ⌝ }
 {
     let holder = cells::right_holder(book, right);
     if holder == sender {
@@ -146,9 +145,9 @@ fn not_owner(book: &Book, sender: u8, other: u8, right: u16) -> bool
 
 // A new pair is needed, and the table is full.
 fn pairs_full(book: &Book, right: u32, out: u32, into: u32) -> bool
-    ensures { λ r. ⌜ r ≡ (leb 512 (length (bookOf (now (book .entry)) .pairs)) && not (pairTaken right out into (bookOf (now (book .entry)) .pairs))) ⌝ }
+    ensures { λ r. ⌜ r ≡ (leb pairLimit (length (bookOf (now (book .entry)) .pairs)) && not (pairTaken right out into (bookOf (now (book .entry)) .pairs))) ⌝ }
 {
-    if cells::count_in(book, cells::PAIRS, 512) < 512 {
+    if cells::count_in(book, cells::PAIRS, cells::PAIR_LIMIT) < cells::PAIR_LIMIT {
         return false;
     }
     let Found::At(_) = pairs::standing_pair(book, right, out, into) else {
@@ -203,11 +202,11 @@ fn nomination_verdict(
 
 // A new pair with no MW: its number.
 fn open_pair(book: &mut Book, right: u32, out: u32, into: u32) -> u32
-    requires { ⌜ counted (now book) PAIRS 512 < 512 ⌝ }
+    requires { ⌜ counted (now book) PAIRS pairLimit < pairLimit ⌝ }
     ensures { λ r. ⌜ Opened (now (book .entry)) right out into r (now (book .exit)) ⌝ }
 {
     let cells = cells::cells_in(book);
-    let count = cells::count_in(book, cells::PAIRS, 512);
+    let count = cells::count_in(book, cells::PAIRS, cells::PAIR_LIMIT);
     let row = [right, out, into, 0, 0, 0, 0, 0, 0, 0, 0, 0, 0];
     cells::add_row(book, cells::PAIRS, count, &row);
     count
@@ -215,7 +214,7 @@ fn open_pair(book: &mut Book, right: u32, out: u32, into: u32) -> u32
 
 // The number of the pair of a right and two parties, which is opened where there is none.
 fn take_pair(book: &mut Book, right: u32, out: u32, into: u32) -> u32
-    requires { ⌜ (leb 512 (length (bookOf (now book) .pairs)) && not (pairTaken right out into (bookOf (now book) .pairs))) ≡ false ⌝ }
+    requires { ⌜ (leb pairLimit (length (bookOf (now book) .pairs)) && not (pairTaken right out into (bookOf (now book) .pairs))) ≡ false ⌝ }
     ensures { λ r. ⌜ PairThere (now (book .entry)) right out into r (now (book .exit)) ⌝ }
 {
     let cells = cells::cells_in(book);
@@ -227,7 +226,7 @@ fn take_pair(book: &mut Book, right: u32, out: u32, into: u32) -> u32
 
 // The five MW of one side of a pair.
 fn write_side(book: &mut Book, pair: u32, side: u8, mw: [u16; 5])
-    requires { ⌜ (pair < 512) × (side ≤ 1) ⌝ }
+    requires { ⌜ (pair < pairLimit) × (side ≤ 1) ⌝ }
     ensures { λ r. ⌜ now (book .exit) ≡ sets (now (book .entry)) (PAIRS + 4 + pair * 13 + 5 * side) mw ⌝ }
 {
     let five = [

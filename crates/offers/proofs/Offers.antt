@@ -8,7 +8,7 @@ use native.Mathlib.Omega.{arith}
 use borrow.Author.Tests.{eq-eqb}
 use lib.ListN.{length-set, getD, set}
 use Rattle.rules.specs.Basics.{has}
-use Rattle.rules.specs.Book.{Book, place, ofProfile}
+use Rattle.rules.specs.Book.{Book, place}
 use Rattle.rules.specs.Calls.{Call, OfferDirection, OfferProfile}
 use Rattle.rules.specs.Said.{said}
 use Rattle.rules.specs.Refusals.{order, firstOf, setupShut, directionUnknown, profileUnknown, hourUnknown, unknown, taken, wrongHours, noAccess, notOwner, cycle, full, shortageOf, refuses, number}
@@ -19,10 +19,10 @@ use Rattle.rules.specs.declared.Answer.the-variants.{Granted, Unknown}
 use Rattle.rules.proofs.Bools.{or-true}
 use Rattle.rules.proofs.Decisions.{is-granted, fails}
 use Rattle.cells.specs.Layout.{OFFERED}
-use Rattle.cells.specs.View.{bookOf}
+use Rattle.cells.specs.View.{InHour, bookOf}
 use Rattle.cells.specs.Updates.{withOffered, withClock}
 use Rattle.cells.proofs.Stores.{offered-set, clock-set}
-use Rattle.cells.proofs.Views.{Known, KnownProfile, known, known-profile, slot, granted-place, left-at}
+use Rattle.cells.proofs.Views.{Known, KnownProfile, known, known-profile, granted-place}
 use Rattle.answers.specs.Promises.{Answers, saidLeft}
 use Rattle.answers.proofs.Laws.{Left, granted}
 use Rattle.offers.specs.Work.{Placed, leftIn}
@@ -46,7 +46,7 @@ pub profile-there : (b : List ℕ) (t p h mw : ℕ) → number (bookOf b) (Offer
 unfolding order has refuses unknown
 profile-there b t p h mw g = known-profile b p h (fails (is-granted (bookOf b) (OfferProfile t p h mw) (eq-eqb _ 0 g)) 6 tt)
 
--- ---- its effect, for both kinds: the offer of limit l in hour h is mw, and the clock is t
+-- ---- its effect, for both kinds: the offer of row l in hour h is mw, and the clock is t
 
 pub record Offers (c : Call) (t l h mw : ℕ) : Type 0 where
   pub effect-is : (b : Book) → withClock (withOffered b (set (b .offered) (place l h) mw)) t ≡ effect b c
@@ -60,7 +60,7 @@ pub of-profile : (t p h mw : ℕ) → Offers (OfferProfile t p h mw) t (24 + p) 
 unfolding effect isTimed clockAfter directionsAfter profilesAfter partiesAfter offeredAfter grantedAfter rightsAfter pairsAfter matchedAfter detail
 of-profile t p h mw = record { effect-is = λ b. rw (or-true (b .started)); detail-is = λ b. refl }
 
-pub offer-answers : {c : Call} {t l h mw left : ℕ} (b b′ : List ℕ) → Offers c t l h mw → (l < 32) × ((1 ≤ h) × (h ≤ 25)) → number (bookOf b) c ≡ 0 → Placed b t l h mw left b′
+pub offer-answers : {c : Call} {t l h mw left : ℕ} (b b′ : List ℕ) → Offers c t l h mw → InHour l h → number (bookOf b) c ≡ 0 → Placed b t l h mw left b′
     → Answers b c (Granted left) b′
 offer-answers {c} {t} {l} {h} {mw} {left} b b′ o s g p =
     let u = p .cells .count in
@@ -79,8 +79,8 @@ unfolding readDirection directionReadRefuses firstOf order
 direction-unknown b d h e = rw e
 
 pub direction-left-is : (b : List ℕ) (d h : ℕ) → (directionUnknown (bookOf b) d || hourUnknown (bookOf b) h) ≡ false → saidLeft (leftIn b d h) ≡ readDirection (bookOf b) d h
-unfolding readDirection directionReadRefuses firstOf order leftIn
-direction-left-is b d h e = rw (e, left-at b d h (slot (known b d h e)))
+unfolding readDirection directionReadRefuses firstOf order
+direction-left-is b d h e = rw e
 
 pub profile-unknown : (b : List ℕ) (p h : ℕ) → (profileUnknown (bookOf b) p || hourUnknown (bookOf b) h) ≡ true
     → saidLeft (record { answer = Unknown; left = 0 }) ≡ readProfile (bookOf b) p h
@@ -88,5 +88,5 @@ unfolding readProfile profileReadRefuses firstOf order
 profile-unknown b p h e = rw e
 
 pub profile-left-is : (b : List ℕ) (p h : ℕ) → (profileUnknown (bookOf b) p || hourUnknown (bookOf b) h) ≡ false → saidLeft (leftIn b (24 + p) h) ≡ readProfile (bookOf b) p h
-unfolding readProfile profileReadRefuses firstOf order leftIn
-profile-left-is b p h e = rw (e, left-at b (ofProfile p) h (known-profile b p h e .row))
+unfolding readProfile profileReadRefuses firstOf order
+profile-left-is b p h e = rw e

@@ -4,10 +4,10 @@ use Prim.Native.Nat.{ℕ, _+_, _-_}
 use mathlib.Core.Path.{_≡_}
 use mathlib.Core.List.{List}
 use lib.ListN.{set}
-use Rattle.rules.specs.Book.{place}
+use Rattle.rules.specs.Book.{place, leftAt}
 use Rattle.rules.specs.declared.Answer.the-variants.{Granted}
 use Rattle.cells.specs.Layout.{OFFERED, GRANTED}
-use Rattle.cells.specs.View.{Cells, cell}
+use Rattle.cells.specs.View.{Cells, cell, bookOf}
 use Rattle.cells.specs.Stores.{clocked}
 use Rattle.answers.specs.declared.LeftRead.{LeftRead}
 
@@ -18,5 +18,5 @@ pub record Placed (b : List ℕ) (time row hour mw left : ℕ) (b′ : List ℕ)
   pub cells-are : b′ ≡ clocked time (set b (OFFERED + place row hour) mw)
 
 -- the read of a row that is there
-unfoldable pub leftIn : List ℕ → ℕ → ℕ → LeftRead
-leftIn b row hour = record { answer = Granted 0; left = cell b (OFFERED + place row hour) - cell b (GRANTED + place row hour) }
+abbrev pub leftIn : List ℕ → ℕ → ℕ → LeftRead
+leftIn b row hour = record { answer = Granted 0; left = leftAt (bookOf b) row hour }

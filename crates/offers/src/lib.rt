@@ -8,7 +8,7 @@ ghost use Rattle.rules.specs.Windows.{latest, offerOutside};
 ghost use Rattle.rules.specs.Book.{place};
 ghost use Rattle.rules.specs.Calls.{OfferDirection, OfferProfile};
 ghost use Rattle.rules.specs.Refusals.{directionUnknown, profileUnknown, hourUnknown};
-ghost use Rattle.cells.specs.View.{bookOf};
+ghost use Rattle.cells.specs.View.{InHour, bookOf};
 ghost use Rattle.answers.specs.Promises.{Judged, Answers, ReadsDirection, ReadsProfile};
 ghost use Rattle.offers.specs.Work.{Placed, leftIn};
 use answers::LeftRead;
@@ -16,9 +16,6 @@ use answers::Verdict;
 use cells::Book;
 use rules::Answer;
 use rules::Hour;
-
-// The profiles' rows of MW follow those of the directions.
-const PROFILE_ROW: u8 = 24;
 
 // ---- tests
 
@@ -29,37 +26,38 @@ fn offer_field(time: u32, mw: u16) -> bool
     time > 2999 || mw > 9999
 }
 
-fn direction_hour_unknown(book: &Book, direction: u8, hour: u8) -> bool
-    ensures { λ r. ⌜ r ≡ (directionUnknown (bookOf (now (book .entry))) direction || hourUnknown (bookOf (now (book .entry))) hour) ⌝ }
+fn direction_hour_unknown(book: &Book, direction: u8, hour: Hour) -> bool
+    ensures { λ r. ⌜ r ≡ (directionUnknown (bookOf (now (book .entry))) direction || hourUnknown (bookOf (now (book .entry))) (hour .0)) ⌝ }
 {
     answers::direction_unknown(book, direction) || answers::hour_unknown(book, hour)
 }
 
-fn profile_hour_unknown(book: &Book, profile: u8, hour: u8) -> bool
-    ensures { λ r. ⌜ r ≡ (profileUnknown (bookOf (now (book .entry))) profile || hourUnknown (bookOf (now (book .entry))) hour) ⌝ }
+fn profile_hour_unknown(book: &Book, profile: u8, hour: Hour) -> bool
+    ensures { λ r. ⌜ r ≡ (profileUnknown (bookOf (now (book .entry))) profile || hourUnknown (bookOf (now (book .entry))) (hour .0)) ⌝ }
 {
-    cells::count_in(book, cells::PROFILES, 8) <= profile as u32 || answers::hour_unknown(book, hour)
+    cells::count_in(book, cells::PROFILES, cells::PROFILE_LIMIT) <= profile as u32
+        || answers::hour_unknown(book, hour)
 }
 
 // Outside the window of offers of the session that holds the hour.
-fn outside(book: &Book, model: u32, hour: u8, time: u32) -> bool
-    ensures { λ r. ⌜ r ≡ offerOutside (bookOf (now (book .entry)) .hours) (bookOf (now (book .entry)) .weekday) model hour time ⌝ }
+fn outside(book: &Book, model: u32, hour: Hour, time: u32) -> bool
+    ensures { λ r. ⌜ r ≡ offerOutside (bookOf (now (book .entry)) .hours) (bookOf (now (book .entry)) .weekday) model (hour .0) time ⌝ }
 {
     let hours = cells::hours(book);
     let weekday = cells::weekday(book);
-    day::offer_outside(hours, weekday, model, Hour(hour), time)
+    day::offer_outside(hours, weekday, model, hour, time)
 }
 
 // Under the MW granted there.
-fn offer_below(book: &Book, row: u8, hour: u8, mw: u16) -> bool
-    requires { ⌜ (row < 32) × ((1 ≤ hour) × (hour ≤ 25)) ⌝ }
-    ensures { λ r. ⌜ r ≡ ltb mw (getD (bookOf (now (book .entry)) .granted) (place row hour) 0) ⌝ }
+fn offer_below(book: &Book, row: u8, hour: Hour, mw: u16) -> bool
+    requires { ⌜ InHour row (hour .0) ⌝ }
+    ensures { λ r. ⌜ r ≡ ltb mw (getD (bookOf (now (book .entry)) .granted) (place row (hour .0)) 0) ⌝ }
 {
     (mw as u32) < cells::granted_at(book, row, hour)
 }
 
-fn direction_verdict(book: &Book, time: u32, direction: u8, hour: u8, mw: u16) -> Verdict
-    ensures { λ r. ⌜ Judged (bookOf (now (book .entry))) (OfferDirection time direction hour mw) r ⌝ }
+fn direction_verdict(book: &Book, time: u32, direction: u8, hour: Hour, mw: u16) -> Verdict
+    ensures { λ r. ⌜ Judged (bookOf (now (book .entry))) (OfferDirection time direction (hour .0) mw) r ⌝ }
 {
     if offer_field(time, mw) {
         return Verdict::No(Answer::Field);
@@ -80,8 +78,8 @@ fn direction_verdict(book: &Book, time: u32, direction: u8, hour: u8, mw: u16) -
     Verdict::Clear
 }
 
-fn profile_verdict(book: &Book, time: u32, profile: u8, hour: u8, mw: u16) -> Verdict
-    ensures { λ r. ⌜ Judged (bookOf (now (book .entry))) (OfferProfile time profile hour mw) r ⌝ }
+fn profile_verdict(book: &Book, time: u32, profile: u8, hour: Hour, mw: u16) -> Verdict
+    ensures { λ r. ⌜ Judged (bookOf (now (book .entry))) (OfferProfile time profile (hour .0) mw) r ⌝ }
 {
     if offer_field(time, mw) {
         return Verdict::No(Answer::Field);
@@ -95,7 +93,7 @@ fn profile_verdict(book: &Book, time: u32, profile: u8, hour: u8, mw: u16) -> Ve
     if outside(book, 1, hour, time) {
         return Verdict::No(Answer::Gate);
     }
-    if offer_below(book, PROFILE_ROW + profile, hour, mw) {
+    if offer_below(book, cells::PROFILE_ROW + profile, hour, mw) {
         return Verdict::No(Answer::Below);
     }
     Verdict::Clear
@@ -104,78 +102,72 @@ fn profile_verdict(book: &Book, time: u32, profile: u8, hour: u8, mw: u16) -> Ve
 // ---- the calls
 
 // The MW of a row in an hour: what is then left.
-fn place_offer(book: &mut Book, time: u32, row: u8, hour: u8, mw: u16) -> u32
-    requires { ⌜ (row < 32) × ((1 ≤ hour) × (hour ≤ 25)) ⌝ }
-    ensures { λ r. ⌜ Placed (now (book .entry)) time row hour mw r (now (book .exit)) ⌝ }
+fn place_offer(book: &mut Book, time: u32, row: u8, hour: Hour, mw: u16) -> u32
+    requires { ⌜ InHour row (hour .0) ⌝ }
+    ensures { λ r. ⌜ Placed (now (book .entry)) time row (hour .0) mw r (now (book .exit)) ⌝ }
 {
     let count = cells::cells_in(book);
     let granted = cells::granted_at(book, row, hour);
     cells::set_offered(book, row, hour, mw);
     cells::set_clock(book, time);
-    answers::less(mw as u32, granted)
+    rules::less(mw as u32, granted)
 }
 
 pub fn offer_direction(book: &mut Book, time: u32, direction: u8, hour: Hour, mw: u16) -> Answer
     ensures { λ r. ⌜ Answers (now (book .entry)) (OfferDirection time direction (hour .0) mw) r (now (book .exit)) ⌝ }
 {
-    let number = hour.0;
-    let verdict = direction_verdict(book, time, direction, number, mw);
+    let verdict = direction_verdict(book, time, direction, hour, mw);
     match verdict {
         Verdict::No(answer) => answer,
-        Verdict::Clear => Answer::Granted(place_offer(book, time, direction, number, mw)),
+        Verdict::Clear => Answer::Granted(place_offer(book, time, direction, hour, mw)),
     }
 }
 
 pub fn offer_profile(book: &mut Book, time: u32, profile: u8, hour: Hour, mw: u16) -> Answer
     ensures { λ r. ⌜ Answers (now (book .entry)) (OfferProfile time profile (hour .0) mw) r (now (book .exit)) ⌝ }
 {
-    let number = hour.0;
-    let verdict = profile_verdict(book, time, profile, number, mw);
+    let verdict = profile_verdict(book, time, profile, hour, mw);
     match verdict {
         Verdict::No(answer) => answer,
         Verdict::Clear => {
-            Answer::Granted(place_offer(book, time, PROFILE_ROW + profile, number, mw))
+            Answer::Granted(place_offer(book, time, cells::PROFILE_ROW + profile, hour, mw))
         }
     }
 }
 
 // ---- the reads
 
-// What a row has left in an hour.
-fn left_at(book: &Book, row: u8, hour: u8) -> LeftRead
-    requires { ⌜ (row < 32) × ((1 ≤ hour) × (hour ≤ 25)) ⌝ }
-    ensures { λ r. ⌜ r ≡ leftIn (now (book .entry)) row hour ⌝ }
+// The read of a row that is there.
+fn left_read(book: &Book, row: u8, hour: Hour) -> LeftRead
+    requires { ⌜ InHour row (hour .0) ⌝ }
+    ensures { λ r. ⌜ r ≡ leftIn (now (book .entry)) row (hour .0) ⌝ }
 {
-    let offered = cells::offered_at(book, row, hour);
-    let granted = cells::granted_at(book, row, hour);
     LeftRead {
         answer: Answer::Granted(0),
-        left: answers::less(offered, granted),
+        left: cells::left_at(book, row, hour),
     }
 }
 
 pub fn left_of_direction(book: &Book, direction: u8, hour: Hour) -> LeftRead
     ensures { λ r. ⌜ ReadsDirection (now (book .entry)) direction (hour .0) r ⌝ }
 {
-    let number = hour.0;
-    if direction_hour_unknown(book, direction, number) {
+    if direction_hour_unknown(book, direction, hour) {
         return LeftRead {
             answer: Answer::Unknown,
             left: 0,
         };
     }
-    left_at(book, direction, number)
+    left_read(book, direction, hour)
 }
 
 pub fn left_of_profile(book: &Book, profile: u8, hour: Hour) -> LeftRead
     ensures { λ r. ⌜ ReadsProfile (now (book .entry)) profile (hour .0) r ⌝ }
 {
-    let number = hour.0;
-    if profile_hour_unknown(book, profile, number) {
+    if profile_hour_unknown(book, profile, hour) {
         return LeftRead {
             answer: Answer::Unknown,
             left: 0,
         };
     }
-    left_at(book, PROFILE_ROW + profile, number)
+    left_read(book, cells::PROFILE_ROW + profile, hour)
 }

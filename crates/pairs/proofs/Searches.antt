@@ -9,6 +9,7 @@ use native.Mathlib.Omega.{arith}
 use lib.Dec.{eqb}
 use lib.ListN.{length}
 use borrow.Author.Tests.{lt-ltb, le-ltb, eq-eqb, ne-eqb}
+use Rattle.rules.specs.Book.{pairLimit}
 use Rattle.rules.specs.Nominations.{isPairOf, pairTaken, pairOf, emptyPair}
 use Rattle.cells.specs.Layout.{PAIRS}
 use Rattle.cells.specs.View.{cell, counted, pairAt, pairsIn, bookOf}
@@ -23,19 +24,19 @@ abbrev pub place : List ℕ → ℕ → ℕ → ℕ → ℕ
 place b r o i = placeOf (isPairOf r o i) (bookOf b .pairs)
 
 -- the number and the place of what was found
-found-at : (b : List ℕ) (r o i k : ℕ) → standingIn b r o i ≡ At k → (k ≡ place b r o i) × (k < counted b PAIRS 512)
+found-at : (b : List ℕ) (r o i k : ℕ) → standingIn b r o i ≡ At k → (k ≡ place b r o i) × (k < counted b PAIRS pairLimit)
 unfolding standingIn bookOf pairsIn
-found-at b r o i k e = first-at (isPairOf r o i) (pairAt b) (counted b PAIRS 512) k e
+found-at b r o i k e = first-at (isPairOf r o i) (pairAt b) (counted b PAIRS pairLimit) k e
 
-found-none : (b : List ℕ) (r o i : ℕ) → standingIn b r o i ≡ Nothing → counted b PAIRS 512 ≤ place b r o i
+found-none : (b : List ℕ) (r o i : ℕ) → standingIn b r o i ≡ Nothing → counted b PAIRS pairLimit ≤ place b r o i
 unfolding standingIn bookOf pairsIn
-found-none b r o i e = first-none (isPairOf r o i) (pairAt b) (counted b PAIRS 512) e
+found-none b r o i e = first-none (isPairOf r o i) (pairAt b) (counted b PAIRS pairLimit) e
 
 -- a pair that the search found
 pub record Standing (b : List ℕ) (r o i k : ℕ) : Type 0 where
   pub there : pairTaken r o i (bookOf b .pairs) ≡ true
-  pub row : k < counted b PAIRS 512
-  pub most : k < 512
+  pub row : k < counted b PAIRS pairLimit
+  pub most : k < pairLimit
   pub pair-is : pairOf r o i (bookOf b .pairs) ≡ pairAt b k
   pub place-is : place b r o i ≡ k
 

@@ -2,6 +2,7 @@
 -- Assumes nothing.
 use Prim.Native.Nat.{ℕ}
 use mathlib.Core.List.{List}
+use Rattle.rules.specs.Book.{pairLimit}
 use Rattle.rules.specs.Nominations.{isPairOf}
 use Rattle.cells.specs.Layout.{PAIRS}
 use Rattle.cells.specs.Search.{firstRow}
@@ -10,4 +11,4 @@ use Rattle.cells.specs.declared.Found.{Found}
 
 -- the first pair that is there
 unfoldable pub standingIn : List ℕ → ℕ → ℕ → ℕ → Found
-standingIn b r o i = firstRow (isPairOf r o i) (pairAt b) (counted b PAIRS 512)
+standingIn b r o i = firstRow (isPairOf r o i) (pairAt b) (counted b PAIRS pairLimit)

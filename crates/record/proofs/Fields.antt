@@ -1,15 +1,9 @@
 -- Fields that fit their widths.
 -- Assumes nothing.
-use Prim.Native.Nat.{ℕ, zero, suc, _^_, _<_, _≤_}
-use mathlib.Core.Path.{_≡_}
-use mathlib.Core.Bool.{false}
+use Prim.Native.Nat.{ℕ, zero, suc, _^_, _<_}
 use mathlib.Core.List.{List, [], _∷_}
 use native.Mathlib.Omega.{arith}
-use lib.Dec.{ltb}
 use lib.ListN.{getD}
-use borrow.Author.Tests.{ltb-false}
-use Rattle.rules.specs.Basics.{anyAbove}
-use Rattle.rules.proofs.Records.{neither}
 
 -- each value is below the power of 256 that its width gives; past the last width all are 0
 abbrev pub Fit : List ℕ → List ℕ → Type 0
@@ -24,10 +18,3 @@ fit-at (w ∷ ws) (v ∷ vs) f zero = f .0
 fit-at (w ∷ ws) (v ∷ vs) f (suc i) = fit-at ws vs (f .1) i
 fit-at [] (v ∷ vs) f i = absurd f
 fit-at (w ∷ ws) [] f i = absurd f
-
--- none of the numbers is above the limit
-pub at-most : (limit : ℕ) (xs : List ℕ) → anyAbove limit xs ≡ false → (i : ℕ) → getD xs i 0 ≤ limit
-unfolding anyAbove
-at-most limit [] e i = omega arith
-at-most limit (x ∷ xs) e zero = ltb-false limit x (neither (ltb limit x) (anyAbove limit xs) e .0)
-at-most limit (x ∷ xs) e (suc i) = at-most limit xs (neither (ltb limit x) (anyAbove limit xs) e .1) i

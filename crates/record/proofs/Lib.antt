@@ -1,4 +1,4 @@
-pub mod Marks
+pub mod KindBits
 pub mod Fields
 pub mod Turns
 pub mod Whole

@@ -14,13 +14,13 @@ use Rattle.record.specs.declared.KindMaps.{KindMaps}
 use Rattle.record.specs.declared.Found.{Found}
 
 -- for each of n bits from bit i on: it is among the numbers
-unfoldable pub marks : ℕ → ℕ → List ℕ → List Bool
-marks zero i ns = []
-marks (suc n) i ns = has i ns ∷ marks n (suc i) ns
+unfoldable pub amongBits : ℕ → ℕ → List ℕ → List Bool
+amongBits zero i ns = []
+amongBits (suc n) i ns = has i ns ∷ amongBits n (suc i) ns
 
 -- the bits of a kind as maps
 abbrev pub kindMaps : Kind → KindMaps
-kindMaps k = record { always = mapOf (marks 15 0 (k .always)); mws = mapOf (marks 15 0 (k .mws)) }
+kindMaps k = record { always = mapOf (amongBits 15 0 (k .always)); mws = mapOf (amongBits 15 0 (k .mws)) }
 
 -- how many bytes a field takes, which is at most what a number of 32 bits has
 pub record Size (field : ℕ) (stands : Bool) (r : ℕ) : Type 0 where

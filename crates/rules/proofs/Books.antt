@@ -13,7 +13,7 @@ use borrow.Author.Tests.{eqb-true, eqb-false, leb-false, ltb-true, ltb-false}
 use Rattle.rules.specs.Basics.{has}
 use Rattle.rules.specs.Sessions.{firstHour}
 use Rattle.rules.specs.Windows.{latest}
-use Rattle.rules.specs.Book.{Direction, Party, Right, Pair, Book, direction, place, ofProfile, opened}
+use Rattle.rules.specs.Book.{Direction, Party, Right, Pair, Book, direction, place, ofProfile, opened, pairLimit, partyLimit, rightLimit}
 use Rattle.rules.specs.Calls.{Call, AddDirection, AddProfile, AddParty, OfferDirection, OfferProfile, Bid, Nominate, Match}
 use Rattle.rules.specs.Bids.{isShort, shortage, share, withBid, isRightOf, rightTaken, addedRight, withRight}
 use Rattle.rules.specs.Nominations.{outOf, intoOf, isPairOf, pairTaken, withPair}
@@ -68,7 +68,7 @@ pub record Tables (n : ℕ) (ds : List Direction) (maps : List ℕ) (ps : List P
   pub hours-to : n ≤ 25
   pub directions : length ds ≤ 24
   pub profiles : length maps ≤ 8
-  pub parties : length ps ≤ 64
+  pub parties : length ps ≤ partyLimit
 
 pub record Capacities (offers grants : List ℕ) : Type 0 where
   pub offered : length offers ≡ 800
@@ -77,8 +77,8 @@ pub record Capacities (offers grants : List ℕ) : Type 0 where
   pub bounded : (i : ℕ) → getD offers i 0 ≤ 9999
 
 pub record Entries (rs : List Right) (ps : List Pair) : Type 0 where
-  pub rights : length rs ≤ 512
-  pub pairs : length ps ≤ 512
+  pub rights : length rs ≤ rightLimit
+  pub pairs : length ps ≤ pairLimit
 
 abbrev pub Sound : Book → Type 0
 Sound b = Tables (b .hours) (b .directions) (b .profiles) (b .parties) × Capacities (b .offered) (b .granted) × Entries (b .rights) (b .pairs)
@@ -93,22 +93,22 @@ limits b s =
       pairs = s .2 .pairs;
     }
 
--- ---- the place of a limit and an hour that are there
+-- ---- the place of a row and an hour that are there
 
-pub record There (limit hour : ℕ) : Type 0 where
-  pub limits : limit < 32
+pub record There (row hour : ℕ) : Type 0 where
+  pub rows : row < 32
   pub from : 1 ≤ hour
   pub to : hour ≤ 25
 
-there : (b : Book) → Sound b → (limit count most hour : ℕ) → (leb count limit || hourUnknown b hour) ≡ false → count ≤ most
-    → (offset : ℕ) → offset + most ≤ 32 → There (offset + limit) hour
+there : (b : Book) → Sound b → (row count most hour : ℕ) → (leb count row || hourUnknown b hour) ≡ false → count ≤ most
+    → (offset : ℕ) → offset + most ≤ 32 → There (offset + row) hour
 unfolding hourUnknown
-there b s limit count most hour e c offset o =
-    let p = leb-false count limit (or-left _ _ e) in
-    let h = or-right (leb count limit) _ e in
+there b s row count most hour e c offset o =
+    let p = leb-false count row (or-left _ _ e) in
+    let h = or-right (leb count row) _ e in
     let f = ltb-false hour 1 (or-left _ _ h) in
     let t = ltb-false (b .hours) hour (or-right (ltb hour 1) _ h) in
-    record { limits = omega arith; from = f; to = omega (arith, s .0 .hours-to) }
+    record { rows = omega arith; from = f; to = omega (arith, s .0 .hours-to) }
 
 pub direction-there : (b : Book) → Sound b → (d hour : ℕ) → (leb (length (b .directions)) d || hourUnknown b hour) ≡ false → There d hour
 direction-there b s d hour e = rw zero-add at (there b s d (length (b .directions)) 24 hour e (s .0 .directions) 0 (omega arith))
@@ -274,7 +274,7 @@ sound-step b (AddParty code access) g s = (
     hours-to = s .0 .hours-to;
     directions = s .0 .directions;
     profiles = s .0 .profiles;
-    parties = one-more (b .parties) _ 64 (fails g 13 tt);
+    parties = one-more (b .parties) _ partyLimit (fails g 13 tt);
   },
   s .1,
   s .2,

@@ -16,32 +16,32 @@ use Rattle.rules.specs.Effects.{directionsAfter, profilesAfter, offeredA
 use Rattle.rules.specs.Run.{run}
 use Rattle.rules.specs.History.{directionsOf, profilesOf, offerAfter, lastOffer, bidMw, bidSum}
 use Rattle.rules.proofs.Decisions.{Granted, fails}
-use Rattle.rules.proofs.Places.{place-limit, place-hour, stored}
+use Rattle.rules.proofs.Places.{place-row, place-hour, stored}
 use Rattle.rules.proofs.Histories.{after, AllGranted, history, run-follows}
 use Rattle.rules.proofs.Books.{Kept, bid-kept, Sound, direction-there, profile-there, getD-withBid, sound-step, sound-after, sound-opened}
 
--- ---- one limit in one hour
+-- ---- one row in one hour
 
-module _ (limit hour : ℕ) (l : limit < 32) (p : 1 ≤ hour) (q : hour ≤ 25) where
+module _ (row hour : ℕ) (l : row < 32) (p : 1 ≤ hour) (q : hour ≤ 25) where
   offered-step : (b : Book) (c : Call) → Granted b c → Sound b
-      → getD (offeredAfter (b .offered) c) (place limit hour) 0 ≡ offerAfter limit hour (getD (b .offered) (place limit hour) 0) c
+      → getD (offeredAfter (b .offered) c) (place row hour) 0 ≡ offerAfter row hour (getD (b .offered) (place row hour) 0) c
   unfolding order has refuses unknown offeredAfter offerAfter
   offered-step b (AddDirection o i m) g s = refl
   offered-step b (AddProfile map) g s = refl
   offered-step b (AddParty code access) g s = refl
   offered-step b (OfferDirection time d h mw) g s =
       let t = direction-there b s d h (fails g 6 tt) in
-      stored 32 (b .offered) (s .1 .offered) limit hour d h mw l p q (t .limits) (t .from) (t .to)
+      stored 32 (b .offered) (s .1 .offered) row hour d h mw l p q (t .rows) (t .from) (t .to)
   offered-step b (OfferProfile time k h mw) g s =
       let t = profile-there b s k h (fails g 6 tt) in
-      stored 32 (b .offered) (s .1 .offered) limit hour (ofProfile k) h mw l p q (t .limits) (t .from) (t .to)
+      stored 32 (b .offered) (s .1 .offered) row hour (ofProfile k) h mw l p q (t .rows) (t .from) (t .to)
   offered-step b (Bid time k d session mw) g s = refl
   offered-step b (Nominate time sender other r side mw) g s = refl
   offered-step b (Match time d session) g s = refl
 
   granted-step : (b : Book) (c : Call) → Sound b
-      → getD (grantedAfter (b .hours) (b .directions) (b .profiles) (b .granted) c) (place limit hour) 0
-      ≡ getD (b .granted) (place limit hour) 0 + bidMw (b .hours) (b .directions) (b .profiles) limit hour c
+      → getD (grantedAfter (b .hours) (b .directions) (b .profiles) (b .granted) c) (place row hour) 0
+      ≡ getD (b .granted) (place row hour) 0 + bidMw (b .hours) (b .directions) (b .profiles) row hour c
   unfolding grantedAfter bidMw share
   granted-step b (AddDirection o i m) s = sym (add-zero _)
   granted-step b (AddProfile map) s = sym (add-zero _)
@@ -51,17 +51,17 @@ module _ (limit hour : ℕ) (l : limit < 32) (p : 1 ≤ hour) (q : hour ≤ 25) 
   granted-step b (Bid time k d session mw) s =
       let first : ℕ = firstHour (b .hours) (direction (b .directions) d .model) session in
       rw (
-        getD-withBid (b .profiles) d first mw (b .granted) (place limit hour) (omega (arith, s .1 .granted)),
-        place-limit limit hour,
-        place-hour limit hour,
+        getD-withBid (b .profiles) d first mw (b .granted) (place row hour) (omega (arith, s .1 .granted)),
+        place-row row hour,
+        place-hour row hour,
       )
   granted-step b (Nominate time sender other r side mw) s = sym (add-zero _)
   granted-step b (Match time d session) s = sym (add-zero _)
 
   -- the directions and profiles at the end are those that the bid met
   final-mw : (b : Book) (c : Call) (cs : List Call) → AllGranted (effect b c) cs
-      → bidMw (b .hours) (after (effect b c) cs .directions) (after (effect b c) cs .profiles) limit hour c
-      ≡ bidMw (b .hours) (b .directions) (b .profiles) limit hour c
+      → bidMw (b .hours) (after (effect b c) cs .directions) (after (effect b c) cs .profiles) row hour c
+      ≡ bidMw (b .hours) (b .directions) (b .profiles) row hour c
   unfolding bidMw
   final-mw b (AddDirection o i m) cs g = refl
   final-mw b (AddProfile map) cs g = refl
@@ -75,15 +75,15 @@ module _ (limit hour : ℕ) (l : limit < 32) (p : 1 ≤ hour) (q : hour ≤ 25) 
   final-mw b (Match time d session) cs g = refl
 
   granted-after : (b : Book) (cs : List Call) → AllGranted b cs → Sound b
-      → getD (after b cs .granted) (place limit hour) 0
-      ≡ getD (b .granted) (place limit hour) 0 + bidSum (b .hours) (after b cs .directions) (after b cs .profiles) limit hour cs
+      → getD (after b cs .granted) (place row hour) 0
+      ≡ getD (b .granted) (place row hour) 0 + bidSum (b .hours) (after b cs .directions) (after b cs .profiles) row hour cs
   unfolding bidSum effect
   granted-after b [] g s = sym (add-zero _)
   granted-after b (c ∷ cs) g s =
       rw (granted-after (effect b c) cs (g .1) (sound-step b c (g .0) s), granted-step b c s, final-mw b c cs (g .1)) (add-assoc _ _ _)
 
   offered-after : (b : Book) (cs : List Call) → AllGranted b cs → Sound b
-      → getD (after b cs .offered) (place limit hour) 0 ≡ lastOffer limit hour (getD (b .offered) (place limit hour) 0) cs
+      → getD (after b cs .offered) (place row hour) 0 ≡ lastOffer row hour (getD (b .offered) (place row hour) 0) cs
   unfolding lastOffer effect
   offered-after b [] g s = refl
   offered-after b (c ∷ cs) g s =
@@ -126,19 +126,19 @@ profiles-after b (c ∷ cs) = profiles-after (effect b c) cs ∙ profiles-more (
 
 -- ---- the demand
 
-module _ (n day : ℕ) (f : 23 ≤ n) (h : n ≤ 25) (limit hour : ℕ) (l : limit < 32) (p : 1 ≤ hour) (q : hour ≤ 25) where
+module _ (n day : ℕ) (f : 23 ≤ n) (h : n ≤ 25) (row hour : ℕ) (l : row < 32) (p : 1 ≤ hour) (q : hour ≤ 25) where
   granted-total : (gs : List Call) → AllGranted (opened n day) gs
-      → getD (after (opened n day) gs .granted) (place limit hour) 0 ≡ bidSum n (directionsOf gs) (profilesOf gs) limit hour gs
+      → getD (after (opened n day) gs .granted) (place row hour) 0 ≡ bidSum n (directionsOf gs) (profilesOf gs) row hour gs
   unfolding opened
   granted-total gs g =
-      granted-after limit hour l p q (opened n day) gs g (sound-opened n day f h)
-      ∙ rw (getD-replicate {A = ℕ} 800 (place limit hour) 0 0 (omega arith), directions-after (opened n day) gs, profiles-after (opened n day) gs) (zero-add _)
+      granted-after row hour l p q (opened n day) gs g (sound-opened n day f h)
+      ∙ rw (getD-replicate {A = ℕ} 800 (place row hour) 0 0 (omega arith), directions-after (opened n day) gs, profiles-after (opened n day) gs) (zero-add _)
 
   offered-last : (gs : List Call) → AllGranted (opened n day) gs
-      → getD (after (opened n day) gs .offered) (place limit hour) 0 ≡ lastOffer limit hour 0 gs
+      → getD (after (opened n day) gs .offered) (place row hour) 0 ≡ lastOffer row hour 0 gs
   unfolding opened
   offered-last gs g =
-      offered-after limit hour l p q (opened n day) gs g (sound-opened n day f h) ∙ rw (getD-replicate {A = ℕ} 800 (place limit hour) 0 0 (omega arith))
+      offered-after row hour l p q (opened n day) gs g (sound-opened n day f h) ∙ rw (getD-replicate {A = ℕ} 800 (place row hour) 0 0 (omega arith))
 
 -- at each hour, for each direction and each profile: granted MW are within the last granted offer, and left is the rest
 pub record Rest (left offer granted : ℕ) : Type 0 where
@@ -149,16 +149,16 @@ pub record Rest (left offer granted : ℕ) : Type 0 where
 rest : (o g offer granted : ℕ) → g ≡ granted → o ≡ offer → g ≤ o → Rest (o - g) offer granted
 rest o g offer granted p q h = record { fits = omega arith; left-is = omega arith; adds-up = omega arith }
 
-pub capacity : (n day : ℕ) → 23 ≤ n → n ≤ 25 → (cs : List Call) (limit hour : ℕ) → limit < 32 → 1 ≤ hour → hour ≤ 25
+pub capacity : (n day : ℕ) → 23 ≤ n → n ≤ 25 → (cs : List Call) (row hour : ℕ) → row < 32 → 1 ≤ hour → hour ≤ 25
     → let gs : List Call = history (opened n day) cs in
-    Rest (leftAt (run (opened n day) cs .book) limit hour) (lastOffer limit hour 0 gs) (bidSum n (directionsOf gs) (profilesOf gs) limit hour gs)
-capacity n day f h cs limit hour l p q =
+    Rest (leftAt (run (opened n day) cs .book) row hour) (lastOffer row hour 0 gs) (bidSum n (directionsOf gs) (profilesOf gs) row hour gs)
+capacity n day f h cs row hour l p q =
     let b : Book = opened n day in
     let gs : List Call = history b cs in
     let w = run-follows b cs in
     let s = sound-after b gs (w .granted) (sound-opened n day f h) in
     rw (w .book)
-    (rest _ _ _ _ (granted-total n day f h limit hour l p q gs (w .granted)) (offered-last n day f h limit hour l p q gs (w .granted)) (s .1 .within (place limit hour)))
+    (rest _ _ _ _ (granted-total n day f h row hour l p q gs (w .granted)) (offered-last n day f h row hour l p q gs (w .granted)) (s .1 .within (place row hour)))
 
 -- ---- what a run leaves of the day and of set-up
 

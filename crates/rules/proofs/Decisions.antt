@@ -1,11 +1,12 @@
 -- Demand 1, and what a grant says of each condition.
 -- Assumes nothing.
-use Prim.Native.Nat.{ℕ}
-use mathlib.Core.Path.{_≡_, refl, sym, ap, subst}
+use Prim.Native.Nat.{ℕ, zero, suc, _+_, _≤_, _<_}
+use mathlib.Core.Path.{_≡_, refl, sym, subst}
 use mathlib.Core.Bool.{Bool, true, false, _||_, _&&_, not, true≢false}
 use mathlib.Core.List.{List, [], _∷_, _++_}
-use lib.Dec.{T, eqb}
-use borrow.Author.Tests.{eqb-true, eqb-false}
+use native.Mathlib.Omega.{arith}
+use lib.Dec.{T, eqb, leb}
+use borrow.Author.Tests.{eqb-true, eqb-false, leb-true, leb-false}
 use Rattle.rules.specs.Basics.{has}
 use Rattle.rules.specs.Book.{Book}
 use Rattle.rules.specs.Calls.{Call, isGrant}
@@ -15,27 +16,55 @@ use Rattle.rules.specs.Run.{applied}
 use Rattle.rules.specs.Opening.{openingRefuses, opening}
 use Rattle.rules.specs.Reads.{directionReadRefuses, readDirection, profileReadRefuses, readProfile, rightReadRefuses, readRight, confirmedReadRefuses, readConfirmed}
 use Rattle.rules.specs.Records.{writerRefuses, writing, readerRefuses, reading}
-use Rattle.rules.specs.Demand1.{None, Decided, granting, refusing, Demand1}
+use Rattle.rules.specs.Demand1.{None, upFrom, Lowest, granting, refusing, Demand1}
 use Rattle.rules.specs.declared.CallRecord.{CallRecord}
 
-later : {f : ℕ → Bool} {ns : List ℕ} {k : ℕ} (n : ℕ) → f n ≡ false → Decided f ns k → Decided f (n ∷ ns) k
-later n e (granting h) = granting (e, h)
-later n e (refusing before m rest p q r) = refusing (n ∷ before) m rest (ap (λ (l : List ℕ). n ∷ l) p) (e, q) r
-
--- the first number whose condition holds is the lowest that applies
-pub first-of : (f : ℕ → Bool) (ns : List ℕ) → Decided f ns (firstOf f ns)
-unfolding firstOf
-first-of f [] = granting tt
-first-of f (n ∷ ns) = go (f n) refl (first-of f ns)
-  where
-    go : (t : Bool) → f n ≡ t → Decided f ns (firstOf f ns) → Decided f (n ∷ ns) (firstOf f (n ∷ ns))
-    go true e d = rw e (refusing [] n ns refl tt e)
-    go false e d = rw e (later n e d)
-
 -- what is not 0 is a number whose condition holds
-pub refused-so : {f : ℕ → Bool} {ns : List ℕ} {n : ℕ} → Decided f ns n → (n ≡ 0 → ⊥) → f n ≡ true
-refused-so (granting h) z = absurd (z refl)
-refused-so (refusing before n later p q r) z = r
+pub refused-so : (f : ℕ → Bool) (ns : List ℕ) (n : ℕ) → firstOf f ns ≡ n → (n ≡ 0 → ⊥) → f n ≡ true
+unfolding firstOf
+refused-so f [] n e z = absurd (z (sym e))
+refused-so f (m ∷ ms) n e z = go (f m) refl (λ k. refused-so f ms n k z)
+  where
+    go : (t : Bool) → f m ≡ t → (firstOf f ms ≡ n → f n ≡ true) → f n ≡ true
+    go true p rest = subst (λ (k : ℕ). f k ≡ true) (rw p at e) p
+    go false p rest = rest (rw p at e)
+
+-- ---- the first of 1, 2, .. whose condition holds is the lowest
+
+-- no number below the one found has a condition that holds, and none at all where 0 was found
+lower-fail : (f : ℕ → Bool) (n k r m : ℕ) → 1 ≤ k → firstOf f (upFrom k n) ≡ r → k ≤ m → m < k + n → (1 ≤ r → m < r) → f m ≡ false
+unfolding firstOf
+lower-fail f zero k r m one e a u l = absurd (omega arith)
+lower-fail f (suc n) k r m one e a u l = go (f k) refl (leb m k) refl (λ g b. lower-fail f n (suc k) r m (omega arith) g b (omega arith) l)
+  where
+    go : (t : Bool) → f k ≡ t → (s : Bool) → leb m k ≡ s → (firstOf f (upFrom (suc k) n) ≡ r → suc k ≤ m → f m ≡ false) → f m ≡ false
+    go true p s q rest = let g : k ≡ r = rw p at e in absurd (omega (arith, l (omega arith)))
+    go false p true q rest = let g : m ≡ k = omega (arith, leb-true m k q) in rw g p
+    go false p false q rest = rest (rw p at e) (omega (arith, leb-false m k q))
+
+-- a number that is found is one of them
+found-among : (f : ℕ → Bool) (n k r : ℕ) → firstOf f (upFrom k n) ≡ r → 1 ≤ r → (k ≤ r) × (r < k + n)
+unfolding firstOf
+found-among f zero k r e l = absurd (omega arith)
+found-among f (suc n) k r e l = go (f k) refl (λ g. found-among f n (suc k) r g l)
+  where
+    go : (t : Bool) → f k ≡ t → (firstOf f (upFrom (suc k) n) ≡ r → (suc k ≤ r) × (r < suc k + n)) → (k ≤ r) × (r < k + suc n)
+    go true p rest = let g : k ≡ r = rw p at e in (omega arith, omega arith)
+    go false p rest = let g = rest (rw p at e) in (omega arith, omega arith)
+
+in-order : order ≡ upFrom 1 15
+unfolding order
+in-order = refl
+
+pub lowest : (f : ℕ → Bool) → Lowest f (firstOf f order)
+lowest f = rw in-order (go (firstOf f (upFrom 1 15)) refl)
+  where
+    go : (r : ℕ) → firstOf f (upFrom 1 15) ≡ r → Lowest f r
+    go zero e = granting (λ m a u. lower-fail f 15 1 0 m (omega arith) e a (omega arith) (λ l. absurd (omega arith)))
+    go (suc r) e =
+        let g = found-among f 15 1 (suc r) e (omega arith) in
+        refusing (suc r) (omega arith) (omega arith) (refused-so f (upFrom 1 15) (suc r) e (λ z. omega arith))
+        (λ m a l. lower-fail f 15 1 (suc r) m (omega arith) e a (omega arith) (λ s. l))
 
 -- and those before it don't
 pub passed : (f : ℕ → Bool) (ns : List ℕ) (n : ℕ) → firstOf f ns ≡ n → None f (before n ns)
@@ -78,15 +107,16 @@ pub demand1 : Demand1
 unfolding opening readDirection readProfile readRight readConfirmed reading writing
 demand1 =
     record {
-      calls = λ b c. rw (applied-number b c) (first-of (refuses b c) order);
+      in-order = in-order;
+      calls = λ b c. rw (applied-number b c) (lowest (refuses b c));
       calls-kept = applied-kept;
-      openings = λ n day. first-of (openingRefuses n day) order;
-      left-of-directions = λ b d hour. first-of (directionReadRefuses b d hour) order;
-      left-of-profiles = λ b p hour. first-of (profileReadRefuses b p hour) order;
-      rights = λ b r. first-of (rightReadRefuses b r) order;
-      confirmed = λ b r o i. first-of (confirmedReadRefuses b r o i) order;
-      readers = λ s. first-of (readerRefuses s) order;
-      writers = λ c buffer. first-of (writerRefuses c buffer) order;
+      openings = λ n day. lowest (openingRefuses n day);
+      left-of-directions = λ b d hour. lowest (directionReadRefuses b d hour);
+      left-of-profiles = λ b p hour. lowest (profileReadRefuses b p hour);
+      rights = λ b r. lowest (rightReadRefuses b r);
+      confirmed = λ b r o i. lowest (confirmedReadRefuses b r o i);
+      readers = λ s. lowest (readerRefuses s);
+      writers = λ c buffer. lowest (writerRefuses c buffer);
       writers-kept = writing-kept;
     }
 

@@ -1,21 +1,22 @@
 -- Demand 3, whole.
 -- Assumes nothing.
-use Prim.Native.Nat.{ℕ, _≤_, _<_}
+use Prim.Native.Nat.{ℕ, _-_, _≤_, _<_}
 use mathlib.Core.Path.{_≡_, refl, ap, _∙_}
-use mathlib.Core.Bool.{Bool, true, false, _||_}
+use mathlib.Core.Bool.{Bool, true, false, cond, _||_}
 use mathlib.Core.List.{List}
 use native.Mathlib.Nat.{le-trans}
 use native.Mathlib.Omega.{arith}
-use lib.Dec.{ltb, lit≤}
+use lib.Dec.{leb, ltb, lit≤}
 use lib.ListN.{length}
-use borrow.Author.Tests.{ltb-false, lt-leb, le-ltb}
+use borrow.Author.Tests.{leb-false, ltb-false}
 use Rattle.rules.specs.Book.{Book, leftAt, ofProfile, opened}
-use Rattle.rules.specs.Calls.{Call}
+use Rattle.rules.specs.Calls.{Call, noDetails}
 use Rattle.rules.specs.Refusals.{order, firstOf, hourUnknown}
 use Rattle.rules.specs.Run.{run}
 use Rattle.rules.specs.Opening.{opening, dayRefused, dayHours, dayWeekday}
-use Rattle.rules.specs.Reads.{LeftReply, directionReadRefuses, readDirection, profileReadRefuses, readProfile, rightReadRefuses, readRight}
-use Rattle.rules.specs.Demand3.{IsLeft, rightReply, Holds, Demand3}
+use Rattle.rules.specs.Reads.{leftReply, directionReadRefuses, readDirection, profileReadRefuses, readProfile, rightReadRefuses, readRight}
+use Rattle.rules.specs.History.{directionsOf, profilesOf, lastOffer, bidSum}
+use Rattle.rules.specs.Demand3.{leftBy, rightReply, Holds, Demand3}
 use Rattle.rules.proofs.Bools.{or-left, or-right}
 use Rattle.rules.proofs.Histories.{history, struck}
 use Rattle.rules.proofs.Books.{limits}
@@ -25,26 +26,30 @@ use Rattle.rules.proofs.Matching.{confirmed-read, within-right, within-
 
 -- ---- the reads of what is left, and of a right
 
-hour-known : (b : Book) (hour : ℕ) → 1 ≤ hour → hour ≤ b .hours → hourUnknown b hour ≡ false
-unfolding hourUnknown
-hour-known b hour p q = rw (le-ltb hour 1 p, le-ltb (b .hours) hour q)
+-- what the reads of what is left answer, by the book's own tables
+direction-read : (b : Book) (d hour : ℕ) → readDirection b d hour ≡ leftReply (cond (leb (length (b .directions)) d || (ltb hour 1 || ltb (b .hours) hour)) 6 0) (leftAt b d hour)
+unfolding readDirection directionReadRefuses hourUnknown firstOf order
+direction-read b d hour = refl
 
-direction-read : (b : Book) (d hour : ℕ) → d < length (b .directions) → 1 ≤ hour → hour ≤ b .hours
-    → readDirection b d hour ≡ record { number = 0; left = leftAt b d hour }
-unfolding readDirection directionReadRefuses firstOf order
-direction-read b d hour l p q = rw (lt-leb (length (b .directions)) d l, hour-known b hour p q)
+profile-read : (b : Book) (k hour : ℕ) → readProfile b k hour ≡ leftReply (cond (leb (length (b .profiles)) k || (ltb hour 1 || ltb (b .hours) hour)) 6 0) (leftAt b (ofProfile k) hour)
+unfolding readProfile profileReadRefuses hourUnknown firstOf order
+profile-read b k hour = refl
 
-profile-read : (b : Book) (k hour : ℕ) → k < length (b .profiles) → 1 ≤ hour → hour ≤ b .hours
-    → readProfile b k hour ≡ record { number = 0; left = leftAt b (ofProfile k) hour }
-unfolding readProfile profileReadRefuses firstOf order
-profile-read b k hour l p q = rw (lt-leb (length (b .profiles)) k l, hour-known b hour p q)
+-- what is left counts only where number and hour are there
+left-where : (count n x hour left offer granted : ℕ) → (x < count → 1 ≤ hour → hour ≤ n → left ≡ offer - granted)
+    → leftReply (cond (leb count x || (ltb hour 1 || ltb n hour)) 6 0) left ≡ leftBy count n x hour offer granted
+left-where count n x hour left offer granted same = go (leb count x || (ltb hour 1 || ltb n hour)) refl
+  where
+    go : (t : Bool) → (leb count x || (ltb hour 1 || ltb n hour)) ≡ t
+        → leftReply (cond t 6 0) left ≡ cond t (record { reply = noDetails 6; left = 0 }) (record { reply = noDetails 0; left = offer - granted })
+    go true e = refl
+    go false e =
+        let h = or-right (leb count x) _ e in
+        ap (leftReply 0) (same (leb-false count x (or-left _ _ e)) (ltb-false hour 1 (or-left _ _ h)) (ltb-false n hour (or-right (ltb hour 1) _ h)))
 
 right-read : (b : Book) (r : ℕ) → readRight b r ≡ rightReply (b .rights) r
 unfolding readRight rightReadRefuses firstOf order
 right-read b r = refl
-
-is-left : (read : LeftReply) (left offer granted : ℕ) → read ≡ record { number = 0; left = left } → Rest left offer granted → IsLeft read offer granted
-is-left read left offer granted e r = record { fits = r .fits; read-is = e ∙ ap (λ (x : ℕ). record { number = 0; left = x }) (r .left-is) }
 
 -- ---- a book that was opened
 
@@ -52,23 +57,35 @@ module _ (n day : ℕ) (f : 23 ≤ n) (t : n ≤ 25) (cs : List Call) where
   abbrev end : Book
   end = run (opened n day) cs .book
 
+  abbrev gs : List Call
+  gs = history (opened n day) cs
+
   direction-there : (d : ℕ) → d < length (end .directions) → d < 24
   direction-there d l = omega (arith, sound-run n day cs f t .0 .directions)
 
   profile-there : (k : ℕ) → k < length (end .profiles) → ofProfile k < 32
   profile-there k l = omega (arith, sound-run n day cs f t .0 .profiles)
 
+  of-direction : (d hour : ℕ) → d < length (directionsOf gs) → 1 ≤ hour → hour ≤ n
+      → Rest (leftAt end d hour) (lastOffer d hour 0 gs) (bidSum n (directionsOf gs) (profilesOf gs) d hour gs)
+  of-direction d hour l p q =
+      let h = direction-there d (rw (directions-run n day cs) l) in
+      capacity n day f t cs d hour (omega arith) p (le-trans q t)
+
+  of-profile : (k hour : ℕ) → k < length (profilesOf gs) → 1 ≤ hour → hour ≤ n
+      → Rest (leftAt end (ofProfile k) hour) (lastOffer (ofProfile k) hour 0 gs) (bidSum n (directionsOf gs) (profilesOf gs) (ofProfile k) hour gs)
+  of-profile k hour l p q = capacity n day f t cs (ofProfile k) hour (profile-there k (rw (profiles-run n day cs) l)) p (le-trans q t)
+
   holds : Holds (opened n day) n cs
   holds =
       record {
-        left-of-direction = λ d hour l p q.
-            let l′ : d < length (run (opened n day) cs .book .directions) = rw (directions-run n day cs) l in
-            is-left _ _ _ _ (direction-read _ d hour l′ p (rw (hours-run n day cs) q))
-            (capacity n day f t cs d hour (omega (arith, direction-there d l′)) p (le-trans q t));
-        left-of-profile = λ k hour l p q.
-            let l′ : k < length (run (opened n day) cs .book .profiles) = rw (profiles-run n day cs) l in
-            is-left _ _ _ _ (profile-read _ k hour l′ p (rw (hours-run n day cs) q))
-            (capacity n day f t cs (ofProfile k) hour (profile-there k l′) p (le-trans q t));
+        left-of-direction = λ d hour.
+            direction-read end d hour
+            ∙ rw (directions-run n day cs, hours-run n day cs) (left-where _ n d hour _ _ _ (λ l p q. of-direction d hour l p q .left-is));
+        left-of-profile = λ k hour.
+            profile-read end k hour ∙ rw (profiles-run n day cs, hours-run n day cs) (left-where _ n k hour _ _ _ (λ l p q. of-profile k hour l p q .left-is));
+        direction-within = λ d hour l p q. of-direction d hour l p q .fits;
+        profile-within = λ k hour l p q. of-profile k hour l p q .fits;
         the-rights = λ r. right-read end r ∙ ap (λ rs. rightReply rs r) (rights n day f t cs);
         the-sums = λ d hour l. right-sums n _ _ d hour (direction-there d (rw (directions-run n day cs) l)) (history (opened n day) cs);
         the-confirmed = confirmed-read n day f t cs;

@@ -1,4 +1,5 @@
 pub mod Bools
+pub mod Above
 pub mod Decisions
 pub mod Histories
 pub mod Places

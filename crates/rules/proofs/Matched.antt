@@ -28,14 +28,14 @@ use Rattle.rules.proofs.Rights.{fit-after}
 -- ---- the flag of a direction and a session that are there
 
 record There (d s : ℕ) : Type 0 where
-  pub limits : d < 24
+  pub rows : d < 24
   pub from : 1 ≤ s
   pub to : s ≤ 25
 
 session-there : (b : Book) → Sound b → (d s : ℕ) → d < length (b .directions) → sessionThere (b .hours) (modelOf b d) s ≡ true → There d s
 session-there b w d s l t =
     record {
-      limits = omega (arith, w .0 .directions);
+      rows = omega (arith, w .0 .directions);
       from = session-from (b .hours) (modelOf b d) s t;
       to = session-to (b .hours) (modelOf b d) s (w .0 .hours-to) t;
     }
@@ -80,7 +80,7 @@ module _ (d s : ℕ) (t : There d s) where
   matched-step b (Match time e session) g w h =
       let u = match-there b w time e session g in
       unfold isMatched in
-      rw (stored 24 (b .matched) h d s e session 1 (t .limits) (t .from) (t .to) (u .limits) (u .from) (u .to))
+      rw (stored 24 (b .matched) h d s e session 1 (t .rows) (t .from) (t .to) (u .rows) (u .from) (u .to))
       (go (eqb e d && eqb session s) (getD (b .matched) (flag d s) 0))
     where
       go : (z : Bool) (was : ℕ) → eqb (cond z 1 was) 1 ≡ (eqb was 1 || z)
@@ -119,7 +119,7 @@ module _ (n day : ℕ) (f : 23 ≤ n) (t : n ≤ 25) (cs : List Call) where
   unfolding isMatched opened
   flag-is d s u =
       matched-after d s u (opened n day) gs all (sound-opened n day f t) (length-replicate {A = ℕ} 600 0)
-      ∙ rw (getD-replicate {A = ℕ} 600 (flag d s) 0 0 (omega (arith, u .limits, u .to)))
+      ∙ rw (getD-replicate {A = ℕ} 600 (flag d s) 0 0 (omega (arith, u .rows, u .to)))
 
   pub matched-is : (r : ℕ) → r < length (end .rights)
       → isMatched (end .matched) (right (end .rights) r .direction) (right (end .rights) r .session)

@@ -7,20 +7,20 @@ use mathlib.Core.List.{List, [], _∷_, _++_}
 use native.Mathlib.Nat.{zero-add, add-zero, le-trans, mod-eq-of-lt}
 use native.Mathlib.Omega.{arith}
 use lib.Dec.{eqb, leb, ltb}
-use lib.ListN.{length, getD, drop, List·getD-append, length-append}
-use lib.Seq.{getD-drop}
+use lib.ListN.{length, getD, List·getD-append, length-append}
 use borrow.Author.Tests.{eqb-true, leb-false, ltb-true, ltb-false, le-leb, not-false}
-use Rattle.rules.specs.Basics.{has, anyAbove, mwAt}
+use Rattle.rules.specs.Basics.{has, mwAt}
 use Rattle.rules.specs.Sessions.{sessionThere, firstHour, hoursIn}
 use Rattle.rules.specs.Book.{Direction, Right, Book, direction, place, opened, modelOf}
 use Rattle.rules.specs.Calls.{Call, AddDirection, AddProfile, AddParty, OfferDirection, OfferProfile, Bid, Nominate, Match}
-use Rattle.rules.specs.Bids.{share, withBid, cellLimit, wrapAdded, isRightOf, addedRight, withRight}
+use Rattle.rules.specs.Bids.{share, withBid, cellValues, wrapAdded, isRightOf, addedRight, withRight}
 use Rattle.rules.specs.Refusals.{order, refuses, unknown, wrongHours, hoursLacking}
 use Rattle.rules.specs.Effects.{directionsAfter, grantedAfter, rightsAfter, effect}
 use Rattle.rules.specs.History.{added, rightsWith}
 use Rattle.rules.proofs.Bools.{or-left, or-right, and-left, and-right}
+use Rattle.rules.proofs.Above.{zeros-from}
 use Rattle.rules.proofs.Decisions.{Granted, fails}
-use Rattle.rules.proofs.Places.{place-limit, place-hour}
+use Rattle.rules.proofs.Places.{place-row, place-hour}
 use Rattle.rules.proofs.Sessions.{hours-there}
 use Rattle.rules.proofs.Shortages.{holds-direction}
 use Rattle.rules.proofs.Books.{Sound, getD-withBid, grows, sound-step}
@@ -34,17 +34,11 @@ getD-added (x ∷ xs) [] k = sym (add-zero _)
 getD-added (x ∷ xs) (y ∷ ys) zero = refl
 getD-added (x ∷ xs) (y ∷ ys) (suc k) = getD-added xs ys k
 
-wrap-plain : (xs ys : List ℕ) → ((k : ℕ) → getD xs k 0 + getD ys k 0 < cellLimit) → wrapAdded xs ys ≡ added xs ys
+wrap-plain : (xs ys : List ℕ) → ((k : ℕ) → getD xs k 0 + getD ys k 0 < cellValues) → wrapAdded xs ys ≡ added xs ys
 unfolding wrapAdded added
 wrap-plain [] ys h = refl
 wrap-plain (x ∷ xs) [] h = refl
 wrap-plain (x ∷ xs) (y ∷ ys) h = rw (mod-eq-of-lt (h 0), wrap-plain xs ys (λ k. h (suc k)))
-
-above-none : (limit : ℕ) (xs : List ℕ) → anyAbove limit xs ≡ false → (i : ℕ) → getD xs i 0 ≤ limit
-unfolding anyAbove
-above-none limit [] e i = zero-le
-above-none limit (x ∷ xs) e zero = ltb-false limit x (or-left _ _ e)
-above-none limit (x ∷ xs) e (suc i) = above-none limit xs (or-right (ltb limit x) _ e) i
 
 -- ---- the MW granted on a right's direction, in hour k of its session
 
@@ -120,11 +114,7 @@ module _ (b : Book) (w : Sound b) (time p d session : ℕ) (mw : List ℕ) (g : 
   -- MW for an hour that the session lacks are 0
   lacking : (k : ℕ) → hoursIn n model session ≤ k → getD mw k 0 ≡ 0
   unfolding order has refuses wrongHours hoursLacking
-  lacking k h =
-      let e = above-none 0 (drop (hoursIn n model session) mw) (or-left _ _ (fails g 9 tt)) (k - hoursIn n model session) in
-      let q : hoursIn n model session + (k - hoursIn n model session) ≡ k = omega arith in
-      let f : getD mw k 0 ≤ 0 = rw (getD-drop, q) at e in
-      omega arith
+  lacking = zeros-from (hoursIn n model session) mw (or-left _ _ (fails g 9 tt))
 
   share-is : (k : ℕ) → share (b .profiles) d first mw d (first + k) ≡ getD mw k 0
   unfolding share mwAt
@@ -144,7 +134,7 @@ module _ (b : Book) (w : Sound b) (time p d session : ℕ) (mw : List ℕ) (g : 
           let l : d < 24 = omega (arith, direction-known, w .0 .directions) in
           let i : place d (first + k) < length (b .granted) = omega (arith, w .1 .granted, h .0) in
           getD-withBid (b .profiles) d first mw (b .granted) (place d (first + k)) i
-          ∙ rw (place-limit d (first + k) (h .0) h′, place-hour d (first + k) (h .0) h′) (ap (λ (y : ℕ). getD (b .granted) (place d (first + k)) 0 + y) (share-is k))
+          ∙ rw (place-row d (first + k) (h .0) h′, place-hour d (first + k) (h .0) h′) (ap (λ (y : ℕ). getD (b .granted) (place d (first + k)) 0 + y) (share-is k))
       go false e = sym (rw (lacking k (ltb-false k (hoursIn n model session) e)))
 
   -- no MW of a right are above the highest offer

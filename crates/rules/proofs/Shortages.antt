@@ -1,4 +1,4 @@
--- A bid is short exactly where some hour asks more than is left: one that is not short fits each limit that holds its direction, in each hour.
+-- A bid is short exactly where some hour asks more than is left: one that is not short fits each row that holds its direction, in each hour.
 -- Assumes nothing.
 use Prim.Native.Nat.{ℕ, zero, suc, _+_, _-_, _^_, _≤_, _<_, zero-le}
 use mathlib.Core.Path.{_≡_, refl, sym, ap, _∙_, subst, subst⁻¹}
@@ -13,12 +13,12 @@ use Rattle.rules.specs.Basics.{bit, has, mwAt}
 use Rattle.rules.specs.Book.{Book, holds, leftAt, ofProfile}
 use Rattle.rules.specs.Bids.{Shortage, nothingShort, shortAt, orElse, isShort, profileShort, shortProfile, shortHour, shortage, share}
 use Rattle.rules.specs.Refusals.{order, before, firstOf, refuses, unknown, shortageOf, number}
-use Rattle.rules.specs.Details.{refusal, shortHourOf, shortLimitOf}
+use Rattle.rules.specs.Details.{refusal, shortHourOf, shortCapacityOf}
 use Rattle.rules.specs.Run.{Step}
-use Rattle.rules.specs.Demand1.{None, Decided}
-use Rattle.rules.specs.Shortages.{ShortHour, HourFits, NamesLimit, NamesFirst, bid, reply, first, ShortRule}
+use Rattle.rules.specs.Demand1.{None}
+use Rattle.rules.specs.Shortages.{ShortHour, HourFits, NamesCapacity, NamesFirst, bid, reply, first, ShortRule}
 use Rattle.rules.proofs.Bools.{and-left, and-right, and-false, or-left, or-right}
-use Rattle.rules.proofs.Decisions.{first-of, refused-so, passed, none-before, at, applied-number}
+use Rattle.rules.proofs.Decisions.{refused-so, passed, none-before, at, applied-number}
 use Rattle.rules.proofs.Histories.{refused-step}
 
 -- a profile that is not there holds no direction
@@ -60,42 +60,42 @@ module _ (b : Book) (d hour mw : ℕ) where
       go false t e (suc k) h rest =
           subst (λ (x : ℕ). mw ≤ leftAt b (ofProfile x) hour) (suc-add p k ∙ sym (add-suc p k)) (rest (rw t at e) k h)
 
-  hour-fits : isShort (shortHour b d hour mw) ≡ false → (limit : ℕ) → holds (b .profiles) d limit ≡ true → mw ≤ leftAt b limit hour
+  hour-fits : isShort (shortHour b d hour mw) ≡ false → (row : ℕ) → holds (b .profiles) d row ≡ true → mw ≤ leftAt b row hour
   unfolding shortHour holds
-  hour-fits e limit h = go (ltb (leftAt b d hour) mw) refl (ltb limit 24) refl
+  hour-fits e row h = go (ltb (leftAt b d hour) mw) refl (ltb row 24) refl
     where
-      go : (t : Bool) → ltb (leftAt b d hour) mw ≡ t → (s : Bool) → ltb limit 24 ≡ s → mw ≤ leftAt b limit hour
+      go : (t : Bool) → ltb (leftAt b d hour) mw ≡ t → (s : Bool) → ltb row 24 ≡ s → mw ≤ leftAt b row hour
       go true t s q = absurd (true≢false (rw (t, shortHour) at e))
-      go false t true q = rw (eqb-true limit d (rw (q, holds) at h)) (ltb-false (leftAt b d hour) mw t)
+      go false t true q = rw (eqb-true row d (rw (q, holds) at h)) (ltb-false (leftAt b d hour) mw t)
       go false t false q =
-          subst (λ (x : ℕ). mw ≤ leftAt b x hour) (let g = ltb-false limit 24 q in omega arith)
-          (profiles-fit 0 (b .profiles) (rw (t, shortHour) at e) (limit - 24) (rw (q, holds) at h))
+          subst (λ (x : ℕ). mw ≤ leftAt b x hour) (let g = ltb-false row 24 q in omega arith)
+          (profiles-fit 0 (b .profiles) (rw (t, shortHour) at e) (row - 24) (rw (q, holds) at h))
 
 split-or : (s t : Shortage) → isShort (orElse s t) ≡ false → (isShort s ≡ false) × (isShort t ≡ false)
 split-or nothingShort t e = (refl, e)
 split-or (shortAt h l) t e = absurd (true≢false e)
 
 hours-fit : (b : Book) (d : ℕ) (mws : List ℕ) (first : ℕ) → isShort (shortage b d first mws) ≡ false
-    → (k limit : ℕ) → holds (b .profiles) d limit ≡ true → getD mws k 0 ≤ leftAt b limit (first + k)
+    → (k row : ℕ) → holds (b .profiles) d row ≡ true → getD mws k 0 ≤ leftAt b row (first + k)
 unfolding shortage
-hours-fit b d [] first e k limit h = zero-le
-hours-fit b d (mw ∷ mws) first e zero limit h = rw add-zero (hour-fits b d first mw (split-or (shortHour b d first mw) _ e .0) limit h)
-hours-fit b d (mw ∷ mws) first e (suc k) limit h =
-    subst (λ (x : ℕ). getD mws k 0 ≤ leftAt b limit x) (suc-add first k ∙ sym (add-suc first k))
-    (hours-fit b d mws (suc first) (split-or (shortHour b d first mw) _ e .1) k limit h)
+hours-fit b d [] first e k row h = zero-le
+hours-fit b d (mw ∷ mws) first e zero row h = rw add-zero (hour-fits b d first mw (split-or (shortHour b d first mw) _ e .0) row h)
+hours-fit b d (mw ∷ mws) first e (suc k) row h =
+    subst (λ (x : ℕ). getD mws k 0 ≤ leftAt b row x) (suc-add first k ∙ sym (add-suc first k))
+    (hours-fit b d mws (suc first) (split-or (shortHour b d first mw) _ e .1) k row h)
 
 pub bid-fits : (b : Book) (d first : ℕ) (mws : List ℕ) → isShort (shortage b d first mws) ≡ false
-    → (limit hour : ℕ) → share (b .profiles) d first mws limit hour ≤ leftAt b limit hour
+    → (row hour : ℕ) → share (b .profiles) d first mws row hour ≤ leftAt b row hour
 unfolding share mwAt
-bid-fits b d first mws e limit hour = go (holds (b .profiles) d limit) refl (leb first hour) refl
+bid-fits b d first mws e row hour = go (holds (b .profiles) d row) refl (leb first hour) refl
   where
-    go : (t : Bool) → holds (b .profiles) d limit ≡ t → (s : Bool) → leb first hour ≡ s → share (b .profiles) d first mws limit hour ≤ leftAt b limit hour
+    go : (t : Bool) → holds (b .profiles) d row ≡ t → (s : Bool) → leb first hour ≡ s → share (b .profiles) d first mws row hour ≤ leftAt b row hour
     go false t s q = rw (t, share) zero-le
     go true t false q = rw (t, share, q, mwAt) zero-le
     go true t true q =
         rw (t, share, q, mwAt)
-        (subst (λ (x : ℕ). getD mws (hour - first) 0 ≤ leftAt b limit x) (let g = leb-true first hour q in omega arith)
-        (hours-fit b d mws first e (hour - first) limit t))
+        (subst (λ (x : ℕ). getD mws (hour - first) 0 ≤ leftAt b row x) (let g = leb-true first hour q in omega arith)
+        (hours-fit b d mws first e (hour - first) row t))
 
 -- ---- what the search names
 
@@ -103,7 +103,7 @@ bid-fits b d first mws e limit hour = go (holds (b .profiles) d limit) refl (leb
 record NamesProfile (b : Book) (d hour mw p : ℕ) (maps : List ℕ) (h l : ℕ) : Type 0 where
   pub k : ℕ
   pub hour-is : h ≡ hour
-  pub limit-is : l ≡ suc (p + k)
+  pub capacity-is : l ≡ suc (p + k)
   pub held : bit (getD maps k 0) d ≡ true
   pub above : leftAt b (ofProfile (p + k)) hour < mw
   pub lower : (q : ℕ) → q < k → bit (getD maps q 0) d ≡ true → mw ≤ leftAt b (ofProfile (p + q)) hour
@@ -129,7 +129,7 @@ profile-named b d hour mw p (map ∷ maps) h l e =
         record {
           k = 0;
           hour-is = cc;
-          limit-is = rw (add-zero p) (cc);
+          capacity-is = rw (add-zero p) (cc);
           held = short-held b d hour mw p map t;
           above = rw (add-zero p) (short-above b d hour mw p map t);
           lower = λ q i g. absurd (omega arith);
@@ -139,7 +139,7 @@ profile-named b d hour mw p (map ∷ maps) h l e =
         record {
           k = suc (r .k);
           hour-is = r .hour-is;
-          limit-is = r .limit-is ∙ ap suc (next (r .k));
+          capacity-is = r .capacity-is ∙ ap suc (next (r .k));
           held = r .held;
           above = rw (← next (r .k)) (r .above);
           lower = λ q i g. below q i g (λ j i′ g′. r .lower j i′ g′);
@@ -151,19 +151,19 @@ profile-named b d hour mw p (map ∷ maps) h l e =
         below zero i g lower = rw (add-zero p) (short-not b d hour mw p map t g)
         below (suc j) i g lower = rw (← next j) (lower j (le-of-suc-le-suc i) g)
 
-hour-named : (b : Book) (d hour mw h l : ℕ) → shortHour b d hour mw ≡ shortAt h l → (h ≡ hour) × NamesLimit b d hour mw l
+hour-named : (b : Book) (d hour mw h l : ℕ) → shortHour b d hour mw ≡ shortAt h l → (h ≡ hour) × NamesCapacity b d hour mw l
 unfolding shortHour
 hour-named b d hour mw h l e = go (ltb (leftAt b d hour) mw) refl
   where
-    go : (t : Bool) → ltb (leftAt b d hour) mw ≡ t → (h ≡ hour) × NamesLimit b d hour mw l
+    go : (t : Bool) → ltb (leftAt b d hour) mw ≡ t → (h ≡ hour) × NamesCapacity b d hour mw l
     go true t =
         let e′ : shortAt hour 0 ≡ shortAt h l = rw (t, shortHour) at e in
         let z : 0 ≡ l = cc in
-        (cc, subst (NamesLimit b d hour mw) z (ltb-true (leftAt b d hour) mw t))
+        (cc, subst (NamesCapacity b d hour mw) z (ltb-true (leftAt b d hour) mw t))
     go false t =
         let r = profile-named b d hour mw 0 (b .profiles) h l (rw (t, shortHour) at e) in (
           r .hour-is,
-          subst (NamesLimit b d hour mw) (sym (r .limit-is ∙ ap suc (zero-add (r .k))))
+          subst (NamesCapacity b d hour mw) (sym (r .capacity-is ∙ ap suc (zero-add (r .k))))
               (ltb-false (leftAt b d hour) mw t, r .held, rw zero-add at (r .above), λ q i g. rw zero-add at (r .lower q i g)),
         )
 
@@ -187,8 +187,8 @@ bid-named b d (mw ∷ mws) first h l e = go (shortHour b d first mw) refl e (λ 
         }
       where
         before : (j : ℕ) → j < suc (rest f .k) → ((j′ : ℕ) → j′ < rest f .k → HourFits b d (suc first) mws j′) → HourFits b d first (mw ∷ mws) j
-        before zero i fits limit g = rw (add-zero first) (hour-fits b d first mw (ap isShort q) limit g)
-        before (suc j) i fits limit g = rw (← next j) (fits j (le-of-suc-le-suc i) limit g)
+        before zero i fits row g = rw (add-zero first) (hour-fits b d first mw (ap isShort q) row g)
+        before (suc j) i fits row g = rw (← next j) (fits j (le-of-suc-le-suc i) row g)
     go (shortAt h′ l′) q f rest =
         let r = hour-named b d first mw h l (q ∙ f) in
         record {
@@ -198,7 +198,7 @@ bid-named b d (mw ∷ mws) first h l e = go (shortHour b d first mw) refl e (λ 
           named = rw (r .0) (r .1);
         }
 
--- ---- the limit that it names is short
+-- ---- the row that it names is short
 
 pub holds-direction : (maps : List ℕ) (d : ℕ) → d < 24 → holds maps d d ≡ true
 unfolding holds
@@ -212,13 +212,13 @@ holds-profile maps d p h =
 
 short-hour : (b : Book) (d first : ℕ) (mws : List ℕ) (h l : ℕ) → d < 24 → NamesFirst b d first mws h l → ShortHour b d first mws
 short-hour b d first mws h zero i n =
-    record { k = n .k; limit = d; held = holds-direction (b .profiles) d i; above = rw (n .hour-is) at (n .named) }
+    record { k = n .k; row = d; held = holds-direction (b .profiles) d i; above = rw (n .hour-is) at (n .named) }
 short-hour b d first mws h (suc p) i n =
-    record { k = n .k; limit = ofProfile p; held = holds-profile (b .profiles) d p (n .named .1); above = rw (n .hour-is) at (n .named .2) }
+    record { k = n .k; row = ofProfile p; held = holds-profile (b .profiles) d p (n .named .1); above = rw (n .hour-is) at (n .named .2) }
 
 -- ---- refusal 15
 
-is-short : (s : Shortage) → isShort s ≡ true → s ≡ shortAt (shortHourOf s) (shortLimitOf s)
+is-short : (s : Shortage) → isShort s ≡ true → s ≡ shortAt (shortHourOf s) (shortCapacityOf s)
 is-short nothingShort e = absurd (false≢true e)
 is-short (shortAt h l) e = refl
 
@@ -237,7 +237,7 @@ module _ (b : Book) (time p d session : ℕ) (mw : List ℕ) where
   found-short : number b (bid b time p d session mw) ≡ 15 → isShort found ≡ true
   found-short e =
       sym fifteen-is
-      ∙ refused-so (subst (Decided (refuses b (bid b time p d session mw)) order) e (first-of (refuses b (bid b time p d session mw)) order)) (λ z. omega arith)
+      ∙ refused-so (refuses b (bid b time p d session mw)) order 15 e (λ z. omega arith)
 
   -- the direction is there
   direction-known : number b (bid b time p d session mw) ≡ 15 → d < length (b .directions)
@@ -246,8 +246,8 @@ module _ (b : Book) (time p d session : ℕ) (mw : List ℕ) where
       let u = at (refuses b (bid b time p d session mw)) 6 (before 15 order) (passed (refuses b (bid b time p d session mw)) order 15 e) tt in
       leb-false (length (b .directions)) d (or-right (leb (length (b .parties)) p) _ (or-left _ _ u))
 
-  named : number b (bid b time p d session mw) ≡ 15 → NamesFirst b d (first b time p d session mw) mw (shortHourOf found) (shortLimitOf found)
-  named e = bid-named b d mw (first b time p d session mw) (shortHourOf found) (shortLimitOf found) (is-short found (found-short e))
+  named : number b (bid b time p d session mw) ≡ 15 → NamesFirst b d (first b time p d session mw) mw (shortHourOf found) (shortCapacityOf found)
+  named e = bid-named b d mw (first b time p d session mw) (shortHourOf found) (shortCapacityOf found) (is-short found (found-short e))
 
   when-short : None (refuses b (bid b time p d session mw)) (before 15 order) → ShortHour b d (first b time p d session mw) mw
       → reply b time p d session mw .number ≡ 15
@@ -260,7 +260,7 @@ module _ (b : Book) (time p d session : ℕ) (mw : List ℕ) where
       go : (t : Bool) → isShort found ≡ t → firstOf (refuses b (bid b time p d session mw)) (15 ∷ []) ≡ 15
       go true t = rw (fifteen-is ∙ t)
       go false t =
-          let f = hours-fit b d mw (first b time p d session mw) t (s .k) (s .limit) (s .held) in
+          let f = hours-fit b d mw (first b time p d session mw) t (s .k) (s .row) (s .held) in
           absurd (omega (arith, s .above))
 
   reply-names : reply b time p d session mw .number ≡ 15

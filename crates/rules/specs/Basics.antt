@@ -28,10 +28,10 @@ unfoldable pub has : ℕ → List ℕ → Bool
 has n [] = false
 has n (m ∷ ms) = eqb m n || has n ms
 
--- a value above the limit is among them
+-- a value above the most is among them
 unfoldable pub anyAbove : ℕ → List ℕ → Bool
-anyAbove limit [] = false
-anyAbove limit (x ∷ xs) = ltb limit x || anyAbove limit xs
+anyAbove most [] = false
+anyAbove most (x ∷ xs) = ltb most x || anyAbove most xs
 
 -- the same numbers in the same order
 unfoldable pub same : List ℕ → List ℕ → Bool

@@ -44,9 +44,9 @@ shortage b d hour (mw ∷ mws) = orElse (shortHour b d hour mw) (shortage b d (s
 
 -- ---- granted MW
 
--- what a bid on direction d, for MW from the hour `first` on, takes of a limit in an hour
+-- what a bid on direction d, for MW from the hour `first` on, takes of a row of capacity in an hour
 unfoldable pub share : List ℕ → ℕ → ℕ → List ℕ → ℕ → ℕ → ℕ
-share maps d first mw limit hour = cond (holds maps d limit) (mwAt first mw hour) 0
+share maps d first mw row hour = cond (holds maps d row) (mwAt first mw hour) 0
 
 -- the granted MW with that bid; the list is that of the places from i on
 unfoldable pub withBid : List ℕ → ℕ → ℕ → List ℕ → ℕ → List ℕ → List ℕ
@@ -56,14 +56,14 @@ withBid maps d first mw i (x ∷ xs) = (x + share maps d first mw (i / 25) (1 + 
 -- ---- rights
 
 -- the numbers of a cell are below this
-abbrev pub cellLimit : ℕ
-cellLimit = 2 ^ 32
+abbrev pub cellValues : ℕ
+cellValues = 2 ^ 32
 
 -- the MW of a standing right and of a bid, hour by hour, in cells. That no sum wraps is part of demand 3.
 unfoldable pub wrapAdded : List ℕ → List ℕ → List ℕ
 wrapAdded [] ys = ys
 wrapAdded (x ∷ xs) [] = x ∷ xs
-wrapAdded (x ∷ xs) (y ∷ ys) = (x + y) % cellLimit ∷ wrapAdded xs ys
+wrapAdded (x ∷ xs) (y ∷ ys) = (x + y) % cellValues ∷ wrapAdded xs ys
 
 -- the right of a holder, direction and session
 unfoldable pub isRightOf : ℕ → ℕ → ℕ → Right → Bool

@@ -33,7 +33,7 @@ pub record Pair : Type 0 where
   pub intoMw : List ℕ
 
 -- `started`: a timed call was granted; `clock` is the time of the latest. A profile is its map: bit d for direction d.
--- `offered` and `granted` hold the MW of limit l in hour h at `place l h`: limits 0 to 23 are the directions, 24 to 31 the profiles.
+-- `offered` and `granted` have a row of 25 hours for each direction (rows 0 to 23) and each profile (rows 24 to 31): row r, hour h at `place r h`.
 -- `matched` holds 1 at `flag d s` where session s of direction d was matched, else 0.
 pub record Book : Type 0 where
   pub hours : ℕ
@@ -49,19 +49,35 @@ pub record Book : Type 0 where
   pub pairs : List Pair
   pub matched : List ℕ
 
+-- how many entries the tables hold at most
+abbrev pub directionLimit : ℕ
+directionLimit = 24
+
+abbrev pub profileLimit : ℕ
+profileLimit = 8
+
+abbrev pub partyLimit : ℕ
+partyLimit = 64
+
+abbrev pub rightLimit : ℕ
+rightLimit = 512
+
+abbrev pub pairLimit : ℕ
+pairLimit = 512
+
 abbrev pub place : ℕ → ℕ → ℕ
-place limit hour = limit * 25 + (hour - 1)
+place row hour = row * 25 + (hour - 1)
 
 abbrev pub flag : ℕ → ℕ → ℕ
 flag direction session = direction * 25 + (session - 1)
 
--- the limit that profile p is
+-- the row of profile p
 abbrev pub ofProfile : ℕ → ℕ
-ofProfile p = 24 + p
+ofProfile p = directionLimit + p
 
--- the limit holds direction d: it is that direction, or a profile with its bit
+-- the row holds direction d: it is that of the direction, or of a profile with its bit
 unfoldable pub holds : List ℕ → ℕ → ℕ → Bool
-holds maps d limit = cond (ltb limit 24) (eqb limit d) (bit (getD maps (limit - 24) 0) d)
+holds maps d row = cond (ltb row directionLimit) (eqb row d) (bit (getD maps (row - directionLimit) 0) d)
 
 -- the book of a day, as opened
 unfoldable pub opened : ℕ → ℕ → Book
@@ -93,7 +109,7 @@ right rs r = getD rs r (record { holder = 0; direction = 0; session = 0; mw = no
 
 -- capacity left: the offer less the granted MW
 abbrev pub leftAt : Book → ℕ → ℕ → ℕ
-leftAt b limit hour = getD (b .offered) (place limit hour) 0 - getD (b .granted) (place limit hour) 0
+leftAt b row hour = getD (b .offered) (place row hour) 0 - getD (b .granted) (place row hour) 0
 
 abbrev pub modelOf : Book → ℕ → ℕ
 modelOf b d = direction (b .directions) d .model

@@ -29,5 +29,9 @@ pub record Reply : Type 0 where
   pub first : ℕ
   pub second : ℕ
 
+-- a reply whose details are both 0
+abbrev pub noDetails : ℕ → Reply
+noDetails n = record { number = n; first = 0; second = 0 }
+
 abbrev pub isGrant : Reply → Bool
 isGrant a = eqb (a .number) 0

@@ -3,7 +3,7 @@
 use Prim.Native.Nat.{ℕ, _+_, _-_, _%_}
 use mathlib.Core.Path.{_≡_}
 use mathlib.Core.Bool.{Bool, cond, not}
-use mathlib.Core.List.{List, [], _∷_, _++_}
+use mathlib.Core.List.{List, [], _∷_, _++_, map}
 use lib.ListN.{getD}
 use Rattle.rules.specs.Sessions.{firstHour, hoursIn}
 use Rattle.rules.specs.Windows.{bidsClose, bidOutside}
@@ -37,6 +37,21 @@ numbersOf (r ∷ rs) = r .number ∷ r .first ∷ r .second ∷ numbersOf rs
 -- first and last hour of a session of the four-hour model
 abbrev hoursOf : ℕ → ℕ → List ℕ
 hoursOf n session = firstHour n 4 session ∷ (firstHour n 4 session + hoursIn n 4 session - 1) ∷ []
+
+-- on a day of 24 hours with a weekday, a bid at a minute is inside the window of a session of the one-hour model
+abbrev isIn : ℕ → ℕ → ℕ → ℕ
+isIn session minute weekday = yes-no (not (bidOutside 24 weekday 1 session minute))
+
+-- every weekday but Wednesday, and but Tuesday
+abbrev noWednesday : List ℕ
+noWednesday = 1 ∷ 2 ∷ 4 ∷ 5 ∷ 6 ∷ 7 ∷ []
+
+abbrev noTuesday : List ℕ
+noTuesday = 1 ∷ 3 ∷ 4 ∷ 5 ∷ 6 ∷ 7 ∷ []
+
+-- the same on six days
+abbrev sixTimes : ℕ → List ℕ
+sixTimes x = x ∷ x ∷ x ∷ x ∷ x ∷ x ∷ []
 
 -- on a Monday of 24 hours
 unfoldable pub monday : List Call → Run
@@ -119,12 +134,12 @@ cases =
     -- N = 23: session 6 is 20-23
     ∷ record { computed = hoursOf 23 6; said = 20 ∷ 23 ∷ [] }
     -- one-hour model, no Wednesday: for hour 1 a bid at 1,080 and 1,289 is in, at 1,079 and 1,290 out
-    ∷ record {
-      computed = yes-no (not (bidOutside 24 1 1 1 1080)) ∷ yes-no (not (bidOutside 24 1 1 1 1289)) ∷ yes-no (not (bidOutside 24 1 1 1 1079)) ∷ yes-no (not (bidOutside 24 1 1 1 1290)) ∷ [];
-      said = 1 ∷ 1 ∷ 0 ∷ 0 ∷ [];
-    }
-    -- hour 24 closes for bids at 2,670, on Tuesday at 2,490
-    ∷ record { computed = bidsClose 1 1 24 ∷ bidsClose 2 1 24 ∷ []; said = 2670 ∷ 2490 ∷ [] }
+    ∷ record { computed = map (isIn 1 1080) noWednesday ++ map (isIn 1 1289) noWednesday; said = sixTimes 1 ++ sixTimes 1 }
+    ∷ record { computed = map (isIn 1 1079) noWednesday ++ map (isIn 1 1290) noWednesday; said = sixTimes 0 ++ sixTimes 0 }
+    -- same model: hour 24 closes for bids at 2,670, on Tuesday at 2,490
+    ∷ record { computed = map (λ (w : ℕ). bidsClose w 1 24) noTuesday ++ (bidsClose 2 1 24 ∷ []); said = sixTimes 2670 ++ (2490 ∷ []) }
+    ∷ record { computed = map (isIn 24 2669) noTuesday ++ (isIn 24 2489 2 ∷ []); said = sixTimes 1 ++ (1 ∷ []) }
+    ∷ record { computed = map (isIn 24 2670) noTuesday ++ (isIn 24 2490 2 ∷ []); said = sixTimes 0 ++ (0 ∷ []) }
     -- the record of a bid, and the call read from it
     ∷ record { computed = recordOf bidRecord; said = bidBytes }
     ∷ record { computed = reading bidBytes .number ∷ reading bidBytes .length ∷ fieldsOf (reading bidBytes .call); said = 0 ∷ 10 ∷ fieldsOf bidRecord }

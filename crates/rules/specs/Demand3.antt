@@ -3,26 +3,27 @@
 -- Assumes nothing.
 use Prim.Native.Nat.{ℕ, _+_, _-_, _≤_, _<_}
 use mathlib.Core.Path.{_≡_}
-use mathlib.Core.Bool.{cond}
+use mathlib.Core.Bool.{cond, _||_}
 use mathlib.Core.List.{List, [], _∷_}
-use lib.Dec.{eqb, leb}
+use lib.Dec.{eqb, leb, ltb}
 use lib.ListN.{length, getD}
 use Rattle.rules.specs.Basics.{noMw}
-use Rattle.rules.specs.Book.{Direction, Right, Book, ofProfile, right}
-use Rattle.rules.specs.Calls.{Call}
+use Rattle.rules.specs.Book.{Direction, Right, Book, ofProfile, right, directionLimit, pairLimit, partyLimit, profileLimit, rightLimit}
+use Rattle.rules.specs.Calls.{Call, noDetails}
 use Rattle.rules.specs.Run.{run}
 use Rattle.rules.specs.Opening.{opening, dayHours}
 use Rattle.rules.specs.Reads.{LeftReply, RightReply, readDirection, readProfile, readRight, readConfirmed}
 use Rattle.rules.specs.History.{Key, grantedCalls, grants, directionsOf, profilesOf, lastOffer, bidSum, rightsFrom, rightSum, pairsFrom, lastSide, confirmedBy}
 
--- a read of what is left: last granted offer less granted MW, which never exceed it
-pub record IsLeft (read : LeftReply) (offer granted : ℕ) : Type 0 where
-  pub fits : granted ≤ offer
-  pub read-is : read ≡ record { number = 0; left = offer - granted }
+-- what is left of direction or profile number x, one of `count`, in an hour of a day with n: the last granted offer less the granted MW,
+-- or 6 and 0 where it or the hour is not there
+abbrev pub leftBy : ℕ → ℕ → ℕ → ℕ → ℕ → ℕ → LeftReply
+leftBy count n x hour offer granted =
+    cond (leb count x || (ltb hour 1 || ltb n hour)) (record { reply = noDetails 6; left = 0 }) (record { reply = noDetails 0; left = offer - granted })
 
 -- right number r of these, 6 and zeros where there is none
 abbrev pub rightReply : List Right → ℕ → RightReply
-rightReply rs r = record { number = cond (leb (length rs) r) 6 0; right = right rs r }
+rightReply rs r = record { reply = noDetails (cond (leb (length rs) r) 6 0); right = right rs r }
 
 -- what the reads answer in hour k of the session: the confirmed MW of a pair, and of all these pairs under right r together
 abbrev pub confirmedIn : Book → ℕ → ℕ → ℕ → ℕ → ℕ
@@ -34,11 +35,11 @@ confirmedTotal b k r (x ∷ xs) = cond (eqb (x .right) r) (confirmedIn b k (x .r
 
 -- the limits of the tables
 pub record WithinLimits (b : Book) : Type 0 where
-  pub directions : length (b .directions) ≤ 24
-  pub profiles : length (b .profiles) ≤ 8
-  pub parties : length (b .parties) ≤ 64
-  pub rights : length (b .rights) ≤ 512
-  pub pairs : length (b .pairs) ≤ 512
+  pub directions : length (b .directions) ≤ directionLimit
+  pub profiles : length (b .profiles) ≤ profileLimit
+  pub parties : length (b .parties) ≤ partyLimit
+  pub rights : length (b .rights) ≤ rightLimit
+  pub pairs : length (b .pairs) ≤ pairLimit
 
 -- over the first book b and its count of hours n
 module _ (b : Book) (n : ℕ) (cs : List Call) where
@@ -57,14 +58,15 @@ module _ (b : Book) (n : ℕ) (cs : List Call) where
 
   -- the MW of the granted bids
   abbrev pub mwOf : ℕ → ℕ → ℕ
-  mwOf limit hour = bidSum n directions profiles limit hour granted
+  mwOf row hour = bidSum n directions profiles row hour granted
 
   pub record Holds : Type 0 where
-    -- capacity left, at each hour of the day
-    pub left-of-direction : (d hour : ℕ) → d < length directions → 1 ≤ hour → hour ≤ n
-        → IsLeft (readDirection (run b cs .book) d hour) (lastOffer d hour 0 granted) (mwOf d hour)
-    pub left-of-profile : (p hour : ℕ) → p < length profiles → 1 ≤ hour → hour ≤ n
-        → IsLeft (readProfile (run b cs .book) p hour) (lastOffer (ofProfile p) hour 0 granted) (mwOf (ofProfile p) hour)
+    -- capacity left, never negative: in each hour of the day the granted MW are within the last granted offer
+    pub left-of-direction : (d hour : ℕ) → readDirection (run b cs .book) d hour ≡ leftBy (length directions) n d hour (lastOffer d hour 0 granted) (mwOf d hour)
+    pub left-of-profile : (p hour : ℕ)
+        → readProfile (run b cs .book) p hour ≡ leftBy (length profiles) n p hour (lastOffer (ofProfile p) hour 0 granted) (mwOf (ofProfile p) hour)
+    pub direction-within : (d hour : ℕ) → d < length directions → 1 ≤ hour → hour ≤ n → mwOf d hour ≤ lastOffer d hour 0 granted
+    pub profile-within : (p hour : ℕ) → p < length profiles → 1 ≤ hour → hour ≤ n → mwOf (ofProfile p) hour ≤ lastOffer (ofProfile p) hour 0 granted
     -- the rights, and their sums; the MW on the right-hand side are plain sums
     pub the-rights : (r : ℕ) → readRight (run b cs .book) r ≡ rightReply rights r
     pub the-sums : (d hour : ℕ) → d < length directions → rightSum n directions d hour rights ≡ mwOf d hour

@@ -26,9 +26,9 @@ abbrev pub shortHourOf : Shortage → ℕ
 shortHourOf nothingShort = 0
 shortHourOf (shortAt h l) = h
 
-abbrev pub shortLimitOf : Shortage → ℕ
-shortLimitOf nothingShort = 0
-shortLimitOf (shortAt h l) = l
+abbrev pub shortCapacityOf : Shortage → ℕ
+shortCapacityOf nothingShort = 0
+shortCapacityOf (shortAt h l) = l
 
 -- refusal 15 has the hour of the day, then 0 for the direction or 1 + profile number; every other refusal 0, 0
 unfoldable pub refusal : Book → Call → ℕ → Reply
@@ -36,5 +36,5 @@ refusal b c n =
     record {
       number = n;
       first = cond (eqb n 15) (shortHourOf (shortageOf b c)) 0;
-      second = cond (eqb n 15) (shortLimitOf (shortageOf b c)) 0;
+      second = cond (eqb n 15) (shortCapacityOf (shortageOf b c)) 0;
     }

@@ -1,5 +1,6 @@
 -- 01, The list of demand 3: what it compares the reads with, computed from the day, the calls and their replies alone, never from a book.
--- Nothing here uses a rule of the book's effects, but where 01 says "by the rule above": `confirmedOf`.
+-- Shared with the book's effects are the session rule (`firstHour`), the hour that a bid's MW belong to (`mwAt`), the rows that hold a direction (`holds`)
+-- and, where 01 says "by the rule above", confirmed MW (`confirmedOf`). Offers, rights, pairs, sides and matchings are written down a second time.
 -- Assumes nothing.
 use Prim.Native.Nat.{ℕ, _+_, min}
 use mathlib.Core.Bool.{Bool, false, cond, _&&_, _||_, not}
@@ -57,37 +58,37 @@ profilesOf (c ∷ cs) = addsProfile c (profilesOf cs)
 
 -- ---- capacity
 
--- the offer of a limit in an hour after a call, from what it was before
+-- the offer of a direction or profile, by its row, in an hour after a call, from what it was before
 unfoldable pub offerAfter : ℕ → ℕ → ℕ → Call → ℕ
-offerAfter limit hour was (AddDirection o i m) = was
-offerAfter limit hour was (AddProfile map) = was
-offerAfter limit hour was (AddParty code access) = was
-offerAfter limit hour was (OfferDirection time d h mw) = cond (eqb d limit && eqb h hour) mw was
-offerAfter limit hour was (OfferProfile time p h mw) = cond (eqb (ofProfile p) limit && eqb h hour) mw was
-offerAfter limit hour was (Bid time p d session mw) = was
-offerAfter limit hour was (Nominate time sender other r side mw) = was
-offerAfter limit hour was (Match time d session) = was
+offerAfter row hour was (AddDirection o i m) = was
+offerAfter row hour was (AddProfile map) = was
+offerAfter row hour was (AddParty code access) = was
+offerAfter row hour was (OfferDirection time d h mw) = cond (eqb d row && eqb h hour) mw was
+offerAfter row hour was (OfferProfile time p h mw) = cond (eqb (ofProfile p) row && eqb h hour) mw was
+offerAfter row hour was (Bid time p d session mw) = was
+offerAfter row hour was (Nominate time sender other r side mw) = was
+offerAfter row hour was (Match time d session) = was
 
--- the last granted offer of a limit at an hour, `was` where there is none
+-- the last granted offer of a row in an hour, `was` where there is none
 unfoldable pub lastOffer : ℕ → ℕ → ℕ → List Call → ℕ
-lastOffer limit hour was [] = was
-lastOffer limit hour was (c ∷ cs) = lastOffer limit hour (offerAfter limit hour was c) cs
+lastOffer row hour was [] = was
+lastOffer row hour was (c ∷ cs) = lastOffer row hour (offerAfter row hour was c) cs
 
 -- a bid's MW number k belongs to hour k of its session, on its direction and on each profile that holds it
 unfoldable pub bidMw : ℕ → List Direction → List ℕ → ℕ → ℕ → Call → ℕ
-bidMw n ds maps limit hour (AddDirection o i m) = 0
-bidMw n ds maps limit hour (AddProfile map) = 0
-bidMw n ds maps limit hour (AddParty code access) = 0
-bidMw n ds maps limit hour (OfferDirection time d h mw) = 0
-bidMw n ds maps limit hour (OfferProfile time p h mw) = 0
-bidMw n ds maps limit hour (Bid time p d session mw) =
-    cond (holds maps d limit) (mwAt (firstHour n (direction ds d .model) session) mw hour) 0
-bidMw n ds maps limit hour (Nominate time sender other r side mw) = 0
-bidMw n ds maps limit hour (Match time d session) = 0
+bidMw n ds maps row hour (AddDirection o i m) = 0
+bidMw n ds maps row hour (AddProfile map) = 0
+bidMw n ds maps row hour (AddParty code access) = 0
+bidMw n ds maps row hour (OfferDirection time d h mw) = 0
+bidMw n ds maps row hour (OfferProfile time p h mw) = 0
+bidMw n ds maps row hour (Bid time p d session mw) =
+    cond (holds maps d row) (mwAt (firstHour n (direction ds d .model) session) mw hour) 0
+bidMw n ds maps row hour (Nominate time sender other r side mw) = 0
+bidMw n ds maps row hour (Match time d session) = 0
 
 unfoldable pub bidSum : ℕ → List Direction → List ℕ → ℕ → ℕ → List Call → ℕ
-bidSum n ds maps limit hour [] = 0
-bidSum n ds maps limit hour (c ∷ cs) = bidMw n ds maps limit hour c + bidSum n ds maps limit hour cs
+bidSum n ds maps row hour [] = 0
+bidSum n ds maps row hour (c ∷ cs) = bidMw n ds maps row hour c + bidSum n ds maps row hour cs
 
 -- ---- rights: none at first; each granted bid in turn makes one or adds its five MW to one
 

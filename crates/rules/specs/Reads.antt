@@ -1,4 +1,4 @@
--- 01, the reads: they change nothing, and answer what they name, or zeros where refused.
+-- 01, the reads: they change nothing, and answer what they name, or zeros where refused. Both details are 0.
 -- Assumes nothing.
 use Prim.Native.Nat.{ℕ}
 use mathlib.Core.Bool.{Bool, false, cond, _||_, not}
@@ -6,17 +6,18 @@ use mathlib.Core.List.{List}
 use lib.Dec.{eqb}
 use Rattle.rules.specs.Basics.{noMw, five}
 use Rattle.rules.specs.Book.{Right, Book, ofProfile, right, leftAt}
+use Rattle.rules.specs.Calls.{Reply, noDetails}
 use Rattle.rules.specs.Nominations.{pairTaken, pairOf, confirmedAt}
 use Rattle.rules.specs.Refusals.{order, firstOf, directionUnknown, profileUnknown, rightUnknown, hourUnknown, isMatched}
 
 -- ---- capacity left
 
 pub record LeftReply : Type 0 where
-  pub number : ℕ
+  pub reply : Reply
   pub left : ℕ
 
 abbrev pub leftReply : ℕ → ℕ → LeftReply
-leftReply n left = record { number = n; left = cond (eqb n 0) left 0 }
+leftReply n left = record { reply = noDetails n; left = cond (eqb n 0) left 0 }
 
 unfoldable pub directionReadRefuses : Book → ℕ → ℕ → ℕ → Bool
 directionReadRefuses b d hour n = cond (eqb n 6) (directionUnknown b d || hourUnknown b hour) false
@@ -33,7 +34,7 @@ readProfile b p hour = leftReply (firstOf (profileReadRefuses b p hour) order) (
 -- ---- a right
 
 pub record RightReply : Type 0 where
-  pub number : ℕ
+  pub reply : Reply
   pub right : Right
 
 unfoldable pub rightReadRefuses : Book → ℕ → ℕ → Bool
@@ -41,16 +42,16 @@ rightReadRefuses b r n = cond (eqb n 6) (rightUnknown b r) false
 
 -- what stands for a right that is not there is all zeros
 unfoldable pub readRight : Book → ℕ → RightReply
-readRight b r = record { number = firstOf (rightReadRefuses b r) order; right = right (b .rights) r }
+readRight b r = record { reply = noDetails (firstOf (rightReadRefuses b r) order); right = right (b .rights) r }
 
 -- ---- confirmed MW of a pair, by right, out party and in party
 
 pub record ConfirmedReply : Type 0 where
-  pub number : ℕ
+  pub reply : Reply
   pub mw : List ℕ
 
 abbrev pub confirmedReply : ℕ → List ℕ → ConfirmedReply
-confirmedReply n mw = record { number = n; mw = cond (eqb n 0) mw noMw }
+confirmedReply n mw = record { reply = noDetails n; mw = cond (eqb n 0) mw noMw }
 
 -- 12: before the matching of the right's direction and session
 unfoldable pub confirmedReadRefuses : Book → ℕ → ℕ → ℕ → ℕ → Bool

@@ -11,7 +11,7 @@ use Rattle.rules.specs.Basics.{bit, anyAbove}
 use Rattle.rules.specs.Sessions.{sessionThere, firstHour, hoursIn}
 use Rattle.rules.specs.Windows.{latest, bidOutside, nominationOutside, offerOutside, matchingOutside}
 use Rattle.rules.specs.Codes.{isCode}
-use Rattle.rules.specs.Book.{Direction, Right, Book, place, flag, ofProfile, direction, party, right, modelOf}
+use Rattle.rules.specs.Book.{Direction, Right, Book, place, flag, ofProfile, direction, party, right, modelOf, directionLimit, pairLimit, partyLimit, profileLimit, rightLimit}
 use Rattle.rules.specs.Calls.{Call, AddDirection, AddProfile, AddParty, OfferDirection, OfferProfile, Bid, Nominate, Match}
 use Rattle.rules.specs.Setup.{directionTaken, codeTaken}
 use Rattle.rules.specs.Bids.{Shortage, nothingShort, isShort, shortage, rightTaken}
@@ -197,15 +197,15 @@ cycle b (Match time d session) = isMatched (b .matched) d session
 
 -- a four-hour bid needs a new right, and a nomination a new pair, only where none stands
 unfoldable pub full : Book → Call → Bool
-full b (AddDirection o i m) = leb 24 (length (b .directions))
-full b (AddProfile map) = leb 8 (length (b .profiles))
-full b (AddParty code access) = leb 64 (length (b .parties))
+full b (AddDirection o i m) = leb directionLimit (length (b .directions))
+full b (AddProfile map) = leb profileLimit (length (b .profiles))
+full b (AddParty code access) = leb partyLimit (length (b .parties))
 full b (OfferDirection time d hour mw) = false
 full b (OfferProfile time p hour mw) = false
 full b (Bid time p d session mw) =
-    leb 512 (length (b .rights)) && (eqb (modelOf b d) 1 || not (rightTaken p d session (b .rights)))
+    leb rightLimit (length (b .rights)) && (eqb (modelOf b d) 1 || not (rightTaken p d session (b .rights)))
 full b (Nominate time sender other r side mw) =
-    leb 512 (length (b .pairs)) && not (pairTaken r (outOf sender other side) (intoOf sender other side) (b .pairs))
+    leb pairLimit (length (b .pairs)) && not (pairTaken r (outOf sender other side) (intoOf sender other side) (b .pairs))
 full b (Match time d session) = false
 
 -- ---- 14 below

@@ -1,6 +1,7 @@
 // The types that the day book's crates share. Document 01's rules over them stand in specs/, what follows from them in proofs/.
 ghost use mathlib.Core.Path.{_≡_};
-ghost use Rattle.rules.specs.Said.{said, saidNumbers, limitNumber};
+ghost use Prim.Native.Nat.{_-_};
+ghost use Rattle.rules.specs.Said.{said, saidNumbers, capacityNumber};
 
 // A session's number. Only the session rule turns it into an hour.
 pub struct Session(pub u8);
@@ -9,7 +10,7 @@ pub struct Session(pub u8);
 pub struct Hour(pub u8);
 
 // What is short in an hour: the bid's direction, or a profile that holds it, by number.
-pub enum Limit {
+pub enum CapacityOf {
     Direction,
     Profile(u8),
 }
@@ -31,7 +32,7 @@ pub enum Answer {
     Cycle,
     Full,
     Below,
-    Short(Hour, Limit),
+    Short(Hour, CapacityOf),
 }
 
 // An answer's number, 0 for granted, and its two details.
@@ -56,6 +57,13 @@ pub struct CallRecord {
     pub hour: Hour,
 }
 
+// The difference, or 0.
+pub fn less(a: u32, b: u32) -> u32
+    ensures { λ r. ⌜ r ≡ a - b ⌝ }
+{
+    if b <= a { a - b } else { 0 }
+}
+
 // A refusal with no details.
 fn refused(number: u8) -> ReplyNumbers
     ensures { λ r. ⌜ r ≡ record { number = number; first = 0; second = 0 } ⌝ }
@@ -68,12 +76,12 @@ fn refused(number: u8) -> ReplyNumbers
 }
 
 // 0 for the direction, or 1 + the profile's number.
-fn limit_number(limit: Limit) -> u32
-    ensures { λ r. ⌜ r ≡ limitNumber limit ⌝ }
+fn capacity_number(capacity: CapacityOf) -> u32
+    ensures { λ r. ⌜ r ≡ capacityNumber capacity ⌝ }
 {
-    match limit {
-        Limit::Direction => 0,
-        Limit::Profile(p) => 1 + p as u32,
+    match capacity {
+        CapacityOf::Direction => 0,
+        CapacityOf::Profile(p) => 1 + p as u32,
     }
 }
 
@@ -101,10 +109,10 @@ pub fn numbers(answer: Answer) -> ReplyNumbers
         Answer::Cycle => refused(12),
         Answer::Full => refused(13),
         Answer::Below => refused(14),
-        Answer::Short(hour, limit) => ReplyNumbers {
+        Answer::Short(hour, capacity) => ReplyNumbers {
             number: 15,
             first: hour.0 as u32,
-            second: limit_number(limit),
+            second: capacity_number(capacity),
         },
     }
 }

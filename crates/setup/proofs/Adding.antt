@@ -8,7 +8,7 @@ use lib.Dec.{leb}
 use lib.ListN.{length}
 use borrow.Author.Tests.{eq-eqb, leb-false}
 use Rattle.rules.specs.Basics.{has}
-use Rattle.rules.specs.Book.{Book}
+use Rattle.rules.specs.Book.{Book, directionLimit, partyLimit, profileLimit}
 use Rattle.rules.specs.Calls.{Call, AddDirection, AddProfile, AddParty}
 use Rattle.rules.specs.Said.{said}
 use Rattle.rules.specs.Refusals.{order, firstOf, refuses, number, clock, unknown, taken, gate, wrongHours, noAccess, notOwner, cycle, full, below, shortageOf}
@@ -87,7 +87,7 @@ effects b =
     let same = or-false (b .started) in
     record { direction = λ o i m. rw same; profile = λ map. rw same; party = λ code access. rw same }
 
-pub adds-direction : (b : List ℕ) (o i m : ℕ) → Adds b (AddDirection o i m) DIRECTIONS 24 (o ∷ i ∷ m ∷ [])
+pub adds-direction : (b : List ℕ) (o i m : ℕ) → Adds b (AddDirection o i m) DIRECTIONS directionLimit (o ∷ i ∷ m ∷ [])
 unfolding refuses full detail
 adds-direction b o i m =
     record {
@@ -96,7 +96,7 @@ adds-direction b o i m =
       effect-is = λ n l u e. direction-more b n o i m l u e ∙ effects (bookOf b) .direction o i m;
     }
 
-pub adds-profile : (b : List ℕ) (map : ℕ) → Adds b (AddProfile map) PROFILES 8 (map ∷ [])
+pub adds-profile : (b : List ℕ) (map : ℕ) → Adds b (AddProfile map) PROFILES profileLimit (map ∷ [])
 unfolding refuses full detail
 adds-profile b map =
     record {
@@ -105,7 +105,7 @@ adds-profile b map =
       effect-is = λ n l u e. profile-more b n map l u e ∙ effects (bookOf b) .profile map;
     }
 
-pub adds-party : (b code row : List ℕ) (access : ℕ) → length code ≡ 16 → row ≡ code ++ (access ∷ []) → Adds b (AddParty code access) PARTIES 64 row
+pub adds-party : (b code row : List ℕ) (access : ℕ) → length code ≡ 16 → row ≡ code ++ (access ∷ []) → Adds b (AddParty code access) PARTIES partyLimit row
 unfolding refuses full detail
 adds-party b code row access size is =
     record {

@@ -10,6 +10,7 @@ use lib.Dec.{eqb}
 use lib.ListN.{length, getD, drop, drop-of-length-le}
 use lib.Seq.{drop-cons}
 use Rattle.rules.specs.Basics.{same}
+use Rattle.rules.specs.Book.{directionLimit, partyLimit}
 use Rattle.rules.specs.Setup.{directionTaken, codeTaken}
 use Rattle.cells.specs.Loops.{each, rows}
 use Rattle.cells.specs.Layout.{DIRECTIONS, PARTIES}
@@ -45,13 +46,13 @@ module _ {A : Type 0} (t : A → Bool) (f : ℕ → A) where
     pub none-found : n ≤ k → false ≡ x
     none-found l = sym (rest ∙ each-done tryRow n k false l)
 
-pub direction-search : (b : List ℕ) (o i m : ℕ) → directionTaken o i m (bookOf b .directions) ≡ each (tryRow (clashes o i m) (directionAt b)) (counted b DIRECTIONS 24) 0 false
+pub direction-search : (b : List ℕ) (o i m : ℕ) → directionTaken o i m (bookOf b .directions) ≡ each (tryRow (clashes o i m) (directionAt b)) (counted b DIRECTIONS directionLimit) 0 false
 unfolding bookOf directionsIn directionTaken clashes
-direction-search b o i m = taken-each (clashes o i m) (directionAt b) (directionTaken o i m) refl (λ x xs. refl) (counted b DIRECTIONS 24) 0
+direction-search b o i m = taken-each (clashes o i m) (directionAt b) (directionTaken o i m) refl (λ x xs. refl) (counted b DIRECTIONS directionLimit) 0
 
-pub party-search : (b code : List ℕ) → codeTaken code (bookOf b .parties) ≡ each (tryRow (sameCode code) (partyAt b)) (counted b PARTIES 64) 0 false
+pub party-search : (b code : List ℕ) → codeTaken code (bookOf b .parties) ≡ each (tryRow (sameCode code) (partyAt b)) (counted b PARTIES partyLimit) 0 false
 unfolding bookOf partiesIn codeTaken
-party-search b code = taken-each (sameCode code) (partyAt b) (codeTaken code) refl (λ x xs. refl) (counted b PARTIES 64) 0
+party-search b code = taken-each (sameCode code) (partyAt b) (codeTaken code) refl (λ x xs. refl) (counted b PARTIES partyLimit) 0
 
 -- ---- a byte of a code
 

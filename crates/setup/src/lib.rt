@@ -11,19 +11,13 @@ ghost use lib.ListN.{length};
 ghost use lib.Count.{ones};
 ghost use Rattle.rules.specs.Calls.{AddDirection, AddProfile, AddParty};
 ghost use Rattle.rules.specs.Codes.{isCode};
+ghost use Rattle.rules.specs.Book.{directionLimit, partyLimit, profileLimit};
 ghost use Rattle.rules.specs.Setup.{directionTaken, codeTaken};
 ghost use Rattle.rules.specs.Opening.{dayRefused};
 ghost use Rattle.cells.specs.Layout.{CELLS};
 ghost use Rattle.cells.specs.View.{bookOf, counted, directionAt, partyAt};
 ghost use Rattle.answers.specs.Promises.{Judged, Opens, Answers};
 ghost use Rattle.setup.specs.Work.{Added, sameOperators, clashes, sameCode};
-
-// How many entries the tables hold.
-const MOST_DIRECTIONS: u32 = 24;
-
-const MOST_PROFILES: u32 = 8;
-
-const MOST_PARTIES: u32 = 64;
 
 // ---- the day
 fn day_refused(hours: u8, weekday: u8) -> bool
@@ -66,7 +60,7 @@ fn setup_shut(book: &Book) -> bool
 
 // A row more in a table that has room: its number.
 fn place_row(book: &mut Book, table: usize, limit: u32, row: &[u32]) -> u32
-    requires { ⌜ ((1 ≤ length (now row)) × (length (now row) ≤ 17)) × ((limit ≤ 512) × (table + 1 + limit * length (now row) ≤ CELLS)) × (counted (now book) table limit < limit) ⌝ }
+    requires { ⌜ ((1 ≤ length (now row)) × (length (now row) ≤ 17)) × ((limit ≤ CELLS) × (table + 1 + limit * length (now row) ≤ CELLS)) × (counted (now book) table limit < limit) ⌝ }
     ensures { λ r. ⌜ Added (now (book .entry)) table limit (now (row .entry)) r (now (book .exit)) ⌝ }
 {
     let size = cells::cells_in(book);
@@ -95,7 +89,7 @@ fn direction_field(out: u8, into: u8, model: u8) -> bool
 }
 
 fn same_operators(book: &Book, direction: u32, out: u8, into: u8) -> bool
-    requires { ⌜ direction < 24 ⌝ }
+    requires { ⌜ direction < directionLimit ⌝ }
     ensures { λ r. ⌜ r ≡ sameOperators (directionAt (now (book .entry)) direction) out into ⌝ }
 {
     let row = direction as usize * 3;
@@ -105,7 +99,7 @@ fn same_operators(book: &Book, direction: u32, out: u8, into: u8) -> bool
 
 // The same operators in order, or in opposite order under the other model.
 fn direction_clashes(book: &Book, direction: u32, out: u8, into: u8, model: u8) -> bool
-    requires { ⌜ direction < 24 ⌝ }
+    requires { ⌜ direction < directionLimit ⌝ }
     ensures { λ r. ⌜ r ≡ clashes out into model (directionAt (now (book .entry)) direction) ⌝ }
 {
     if same_operators(book, direction, out, into) {
@@ -120,7 +114,7 @@ fn direction_clashes(book: &Book, direction: u32, out: u8, into: u8, model: u8) 
 fn direction_taken(book: &Book, out: u8, into: u8, model: u8) -> bool
     ensures { λ r. ⌜ r ≡ directionTaken out into model (bookOf (now (book .entry)) .directions) ⌝ }
 {
-    let count = cells::count_in(book, cells::DIRECTIONS, MOST_DIRECTIONS);
+    let count = cells::count_in(book, cells::DIRECTIONS, cells::DIRECTION_LIMIT);
     for k in 0..count {
         if direction_clashes(book, k, out, into, model) {
             return true;
@@ -130,9 +124,9 @@ fn direction_taken(book: &Book, out: u8, into: u8, model: u8) -> bool
 }
 
 fn directions_full(book: &Book) -> bool
-    ensures { λ r. ⌜ r ≡ leb 24 (length (bookOf (now (book .entry)) .directions)) ⌝ }
+    ensures { λ r. ⌜ r ≡ leb directionLimit (length (bookOf (now (book .entry)) .directions)) ⌝ }
 {
-    MOST_DIRECTIONS <= cells::count_in(book, cells::DIRECTIONS, MOST_DIRECTIONS)
+    cells::DIRECTION_LIMIT <= cells::count_in(book, cells::DIRECTIONS, cells::DIRECTION_LIMIT)
 }
 
 fn direction_verdict(book: &Book, out: u8, into: u8, model: u8) -> Verdict
@@ -161,7 +155,7 @@ pub fn add_direction(book: &mut Book, out: u8, into: u8, model: u8) -> Answer
         Verdict::No(answer) => answer,
         Verdict::Clear => {
             let row = [out as u32, into as u32, model as u32];
-            Answer::Granted(place_row(book, cells::DIRECTIONS, MOST_DIRECTIONS, &row))
+            Answer::Granted(place_row(book, cells::DIRECTIONS, cells::DIRECTION_LIMIT, &row))
         }
     }
 }
@@ -177,14 +171,14 @@ fn profile_field(map: u32) -> bool
 fn profile_unknown(book: &Book, map: u32) -> bool
     ensures { λ r. ⌜ r ≡ leb (2 ^ length (bookOf (now (book .entry)) .directions)) map ⌝ }
 {
-    let count = cells::count_in(book, cells::DIRECTIONS, MOST_DIRECTIONS);
+    let count = cells::count_in(book, cells::DIRECTIONS, cells::DIRECTION_LIMIT);
     (map >> count) != 0
 }
 
 fn profiles_full(book: &Book) -> bool
-    ensures { λ r. ⌜ r ≡ leb 8 (length (bookOf (now (book .entry)) .profiles)) ⌝ }
+    ensures { λ r. ⌜ r ≡ leb profileLimit (length (bookOf (now (book .entry)) .profiles)) ⌝ }
 {
-    MOST_PROFILES <= cells::count_in(book, cells::PROFILES, MOST_PROFILES)
+    cells::PROFILE_LIMIT <= cells::count_in(book, cells::PROFILES, cells::PROFILE_LIMIT)
 }
 
 fn profile_verdict(book: &Book, map: u32) -> Verdict
@@ -213,7 +207,7 @@ pub fn add_profile(book: &mut Book, map: u32) -> Answer
         Verdict::No(answer) => answer,
         Verdict::Clear => {
             let row = [map];
-            Answer::Granted(place_row(book, cells::PROFILES, MOST_PROFILES, &row))
+            Answer::Granted(place_row(book, cells::PROFILES, cells::PROFILE_LIMIT, &row))
         }
     }
 }
@@ -232,7 +226,7 @@ fn party_field(code: [u8; 16], access: u8) -> bool
 }
 
 fn same_code(book: &Book, party: u32, code: [u8; 16]) -> bool
-    requires { ⌜ party < 64 ⌝ }
+    requires { ⌜ party < partyLimit ⌝ }
     ensures { λ r. ⌜ r ≡ sameCode code (partyAt (now (book .entry)) party) ⌝ }
 {
     let at = cells::PARTIES + 1 + party as usize * 17;
@@ -247,7 +241,7 @@ fn same_code(book: &Book, party: u32, code: [u8; 16]) -> bool
 fn code_taken(book: &Book, code: [u8; 16]) -> bool
     ensures { λ r. ⌜ r ≡ codeTaken code (bookOf (now (book .entry)) .parties) ⌝ }
 {
-    let count = cells::count_in(book, cells::PARTIES, MOST_PARTIES);
+    let count = cells::count_in(book, cells::PARTIES, cells::PARTY_LIMIT);
     for k in 0..count {
         if same_code(book, k, code) {
             return true;
@@ -257,9 +251,9 @@ fn code_taken(book: &Book, code: [u8; 16]) -> bool
 }
 
 fn parties_full(book: &Book) -> bool
-    ensures { λ r. ⌜ r ≡ leb 64 (length (bookOf (now (book .entry)) .parties)) ⌝ }
+    ensures { λ r. ⌜ r ≡ leb partyLimit (length (bookOf (now (book .entry)) .parties)) ⌝ }
 {
-    MOST_PARTIES <= cells::count_in(book, cells::PARTIES, MOST_PARTIES)
+    cells::PARTY_LIMIT <= cells::count_in(book, cells::PARTIES, cells::PARTY_LIMIT)
 }
 
 fn party_verdict(book: &Book, code: [u8; 16], access: u8) -> Verdict
@@ -300,7 +294,7 @@ pub fn add_party(book: &mut Book, code: [u8; 16], access: u8) -> Answer
         Verdict::No(answer) => answer,
         Verdict::Clear => {
             let row = party_row(code, access);
-            Answer::Granted(place_row(book, cells::PARTIES, MOST_PARTIES, &row))
+            Answer::Granted(place_row(book, cells::PARTIES, cells::PARTY_LIMIT, &row))
         }
     }
 }

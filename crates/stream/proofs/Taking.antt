@@ -8,8 +8,8 @@ use native.Mathlib.Omega.{arith}
 use lib.Dec.{eqb}
 use lib.ListN.{length}
 use Rattle.rules.specs.Book.{Book}
-use Rattle.rules.specs.Calls.{Reply}
-use Rattle.rules.specs.Said.{said, saidNumbers, refusedBy}
+use Rattle.rules.specs.Calls.{Reply, noDetails}
+use Rattle.rules.specs.Said.{said, saidNumbers}
 use Rattle.rules.specs.Run.{applied}
 use Rattle.rules.specs.Records.{RecordReply, isKind, callOf, readerRefuses, noCall, reading}
 use Rattle.rules.specs.declared.Answer.{Answer}
@@ -28,7 +28,7 @@ pub front-read : (b : Book) (s : List ℕ) → reading s .number ≡ 0
 unfolding atFront
 front-read b s e = rw e
 
-pub front-refused : (b : Book) (s : List ℕ) → reading s .number ≡ 1 → atFront b s ≡ record { reply = refusedBy 1; book = b; length = 0 }
+pub front-refused : (b : Book) (s : List ℕ) → reading s .number ≡ 1 → atFront b s ≡ record { reply = noDetails 1; book = b; length = 0 }
 unfolding atFront
 front-refused b s e = rw e refl
 

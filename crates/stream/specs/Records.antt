@@ -7,8 +7,8 @@ use mathlib.Core.List.{List, [], _∷_}
 use lib.Dec.{eqb}
 use lib.ListN.{length, getD}
 use Rattle.rules.specs.Book.{Book}
-use Rattle.rules.specs.Calls.{Call, AddDirection, AddParty, OfferDirection, OfferProfile, Bid, Nominate, Match, Reply, isGrant}
-use Rattle.rules.specs.Said.{said, refusedBy}
+use Rattle.rules.specs.Calls.{Call, AddDirection, AddParty, OfferDirection, OfferProfile, Bid, Nominate, Match, Reply, isGrant, noDetails}
+use Rattle.rules.specs.Said.{said}
 use Rattle.rules.specs.Run.{applied, run}
 use Rattle.rules.specs.Opening.{opening}
 use Rattle.rules.specs.Records.{isKind, reading}
@@ -64,7 +64,7 @@ unfoldable pub atFront : Book → List ℕ → Effect
 atFront b s =
     let c : Call = callMade (reading s .call) in
     cond (eqb (reading s .number) 0) (record { reply = applied b c .reply; book = applied b c .book; length = reading s .length })
-    (record { reply = refusedBy (reading s .number); book = b; length = 0 })
+    (record { reply = noDetails (reading s .number); book = b; length = 0 })
 
 -- a call record is taken from the front of the bytes
 pub record Takes (before bytes : List ℕ) (r : Taken) (after : List ℕ) : Type 0 where

@@ -1,17 +1,19 @@
 -- `bids::bid_verdict` meets its contract: each test passed leaves fewer numbers, and one that holds is the first.
 -- Assumes nothing.
 use Prim.Native.Nat.{ℕ}
-use mathlib.Core.Path.{_≡_, refl, subst, _∙_}
+use mathlib.Core.Path.{_≡_, refl, ap, subst, _∙_}
 use mathlib.Core.List.{List, [], _∷_}
 use denote.Ref.{now}
 use Rattle.rules.specs.Calls.{Bid}
 use Rattle.rules.specs.Refusals.{refuses, field, clock, unknown, gate, hoursLacking, wrongHours, full}
 use Rattle.rules.specs.Details.{refusal}
 use Rattle.rules.specs.declared.Answer.the-variants.{Field, Clock, Unknown, Gate, Hours, Access, Full}
-use Rattle.cells.specs.View.{bookOf}
+use Rattle.cells.specs.View.{directionAt, bookOf}
 use Rattle.capacity.specs.declared.Search.{Search}
-use Rattle.answers.specs.Promises.{Judged}
 use Rattle.answers.proofs.Laws.{Left, pass, refuse, told}
+use Rattle.bids.specs.declared.Entry.{Entry}
+use Rattle.bids.specs.Work.{isFull, Enters, JudgedBid}
+use Rattle.bids.proofs.Rights.{full-told, not-full}
 use Rattle.bids.proofs.Verdicts.{bid-left, KnownBid, known-bid, access-is, session-known, verdictOf, shortage-is, judged}
 use borrow.Author.Needs.{needs}
 use Rattle.bids.proofs.bid_verdict.Statement.{statement}
@@ -59,21 +61,23 @@ after6 c =
     let k = knows (c .before .before .before .before .before .before .before) in
     pass (after5 (c .before .before)) (access-is _ _ _ _ _ _ k ∙ told (c .before .no-access .ensures) (c .if6 .left))
 
-after7 : (c : tie.Else7) → To (c .before .before .before .before .before .before .before .before .before .before .before .before .before .before .before) (15 ∷ [])
+-- the entry of the bid
+enters : (c : tie.At-match-keys2) → let a = c .before .before .before .before .before .before .before .before .before .before .before .before .before .before .before .args in Enters (now (a .book)) (directionAt (now (a .book)) (a .direction) .model) (a .party) (a .direction) (a .session .0) (c .before .entry-of .result)
+enters c = record { entry-is = c .before .entry-of .ensures ∙ rw (c .before .before .before .before .before .before .before .before .model-of .ensures); free = not-full (c .before .entry-of .result) (c .match .keys2) }
+
+after7 : (c : tie.At-match-keys2) → To (c .before .before .before .before .before .before .before .before .before .before .before .before .before .before .before) (15 ∷ [])
 unfolding refuses full
 after7 c =
-    let m = c .before .before .before .before .before .before .before .before in
-    pass (after6 (c .before .before)) (rw (knows (m .before) .model-is, ← m .model-of .ensures) (told (c .before .rights-full .ensures) (c .if7 .left)))
+    pass (after6 (c .before .before)) (rw (knows (c .before .before .before .before .before .before .before .before .before) .model-is) (full-told _ _ _ _ _ (enters c .entry-is) (enters c .free)))
 
 -- what the search found decides
-abbrev Says : tie.Start → Search → Type 0
-Says s r = Judged (bookOf (now (s .args .book))) (Bid (s .args .time) (s .args .party) (s .args .direction) (s .args .session .0) (s .args .mw)) (verdictOf r)
+abbrev Says : tie.Start → Entry → Search → Type 0
+Says s e r = JudgedBid (now (s .args .book)) (s .args .time) (s .args .party) (s .args .direction) (s .args .session .0) (s .args .mw) (verdictOf e r)
 
-judge : (c : tie.After-bid-shortage) → Says (c .before .before .before .before .before .before .before .before .before .before .before .before .before .before .before .before) (c .bid-shortage .result)
+judge : (c : tie.After-bid-shortage) → Says (c .before .before .before .before .before .before .before .before .before .before .before .before .before .before .before .before) (c .before .before .entry-of .result) (c .bid-shortage .result)
 judge c =
-    let a = c .before .before .before .before .before .before .before .before .before .before .before .before .before .before .before .before .args in
     let m = c .before .before .before .before .before .before .before .before .before in
-    judged _ _ (c .bid-shortage .result) (after7 (c .before)) (shortage-is _ (a .time) _ _ _ _ _ _ (knows (m .before)) (m .model-of .ensures) (c .bid-shortage .ensures))
+    judged _ _ _ _ _ _ _ (c .bid-shortage .result) (after7 (c .before)) (enters (c .before)) (shortage-is _ (c .before .before .before .before .before .before .before .before .before .before .before .before .before .before .before .before .args .time) _ _ _ _ _ _ (knows (m .before)) (m .model-of .ensures) (c .bid-shortage .ensures))
 
 returns : tie.Need-returns
 unfolding refuses field refusal
@@ -114,8 +118,9 @@ returns-6 c =
 returns-7 : tie.Need-returns-7
 unfolding refuses full refusal
 returns-7 c =
-    let m = c .before .before .before .before .before .before .before .before in
-    refuse Full (after6 (c .before .before)) (rw (knows (m .before) .model-is, ← m .model-of .ensures) (told (c .before .rights-full .ensures) (c .if7 .taken))) refl refl
+    let e = c .before .before in
+    let m = e .before .before .before .before .before .before .before in
+    refuse Full (after6 (e .before)) (rw (knows (m .before) .model-is, ← m .model-of .ensures) (full-told _ _ _ _ _ (e .entry-of .ensures) (ap isFull (c .enum-told .given .1)))) refl refl
 
 bid-shortage-requires : tie.Need-bid-shortage-requires
 bid-shortage-requires c κs =
@@ -123,10 +128,10 @@ bid-shortage-requires c κs =
     session-known _ _ _ _ _ _ (knows (m .before)) (m .model-of .ensures) (told (c .before .before .before .before .before .wrong-hours .ensures) (c .before .before .before .before .if5 .left))
 
 returns-8 : tie.Need-returns-8
-returns-8 c = subst (Says (c .before .before .before .before .before .before .before .before .before .before .before .before .before .before .before .before .before .before .before)) (c .before .search .given .1) (judge (c .before .before .before))
+returns-8 c = subst (Says (c .before .before .before .before .before .before .before .before .before .before .before .before .before .before .before .before .before .before .before) _) (c .before .search .given .1) (judge (c .before .before .before))
 
 returns-9 : tie.Need-returns-9
-returns-9 c = subst (Says (c .before .before .before .before .before .before .before .before .before .before .before .before .before .before .before .before .before .before)) (c .enum-told .given .1) (judge (c .before .before))
+returns-9 c = subst (Says (c .before .before .before .before .before .before .before .before .before .before .before .before .before .before .before .before .before .before) _) (c .enum-told2 .given .1) (judge (c .before .before))
 
 pub bid-verdict-spec : {M : Type 1} → statement M
 bid-verdict-spec =
@@ -146,6 +151,7 @@ bid-verdict-spec =
     no-access-requires
     returns-6
     (λ c κs. search needs)
+    (λ c. search needs)
     returns-7
     bid-shortage-requires
     (λ c. search needs)

@@ -1,34 +1,46 @@
 -- `bids::book_right` meets its contract.
 -- Assumes nothing.
-use denote.Ref.{now}
-use mathlib.Core.Bool.{_||_, not}
-use lib.Dec.{eqb}
-use Rattle.rules.specs.Bids.{rightTaken}
-use Rattle.cells.specs.View.{bookOf}
-use mathlib.Core.Path.{_∙_}
-use borrow.Author.Tests.{eq-eqb, ne-eqb}
-use Rattle.bids.proofs.Rights.{room-for, opened-books, new-right, new-number, booked-alike}
+use mathlib.Core.Path.{sym, _∙_}
+use native.Mathlib.Omega.{arith}
+use Rattle.bids.proofs.Rights.{has-room, opened-books, below, raised-books}
+use borrow.Author.Needs.{needs}
 use Rattle.bids.proofs.book_right.Statement.{statement}
 use Rattle.bids.proofs.book_right.Tie as tie
 
 open-right-requires : tie.Need-open-right-requires
 open-right-requires c κs =
-    let a = c .before .before .args in
-    let t = eq-eqb _ 1 (c .before .if1 .taken) in
-    room-for (now (a .book)) (eqb (a .model) 1 || not (rightTaken (a .holder) (a .direction) (a .session) (bookOf (now (a .book)) .rights))) (c .before .before .pre) (rw t)
+    let f = c .before .before .before in
+    has-room (f .before .before .before .before .pre) (sym (f .right-by-entry .ensures) ∙ c .before .enum-told .given .1)
 
 returns : tie.Need-returns
 returns c =
-    let a = c .before .before .before .args in
-    let t = eq-eqb _ 1 (c .before .before .if1 .taken) in
-    let l = room-for (now (a .book)) (eqb (a .model) 1 || not (rightTaken (a .holder) (a .direction) (a .session) (bookOf (now (a .book)) .rights))) (c .before .before .before .pre) (rw t) in
-    opened-books _ _ _ _ _ _ _ _ l (new-right _ _ _ _ _ _ t) (new-number _ _ _ _ (a .mw) _ t) (c .open-right .ensures)
+    let f = c .before .before .before .before in
+    let n = sym (f .right-by-entry .ensures) ∙ c .before .before .enum-told .given .1 in
+    opened-books _ _ _ _ _ _ n _ _ (has-room (f .before .before .before .before .pre) n) (c .open-right .ensures)
 
-take-right-requires : tie.Need-take-right-requires
-take-right-requires c κs = rw (ne-eqb _ 1 (c .before .if1 .left)) at (c .before .before .pre)
+add-five-requires : tie.Need-add-five-requires
+add-five-requires c κs =
+    let l = below _ _ _ _ _ _ (sym (c .before .before .before .before .right-by-entry .ensures) ∙ c .before .before .i .given .1) in
+    omega arith
 
 returns-2 : tie.Need-returns-2
-returns-2 c = booked-alike (ne-eqb _ 1 (c .before .before .if1 .left)) (c .take-right .ensures)
+returns-2 c =
+    let f = c .before .before .before .before .before in
+    rw (c .add-five .ensures) (raised-books _ _ _ _ _ _ _ (sym (f .right-by-entry .ensures) ∙ c .before .before .before .i .given .1) (f .before .before .cells-in .ensures .count) (search needs))
 
 pub book-right-spec : {M : Type 1} → statement M
-book-right-spec = tie.close (tie.spec open-right-requires returns take-right-requires returns-2)
+book-right-spec =
+    tie.close
+    (tie.spec
+    (λ c κs. search needs)
+    (λ c κs. search needs)
+    (λ c. search needs)
+    (λ c. search needs)
+    open-right-requires
+    returns
+    (λ c. search needs)
+    (λ c. search needs)
+    (λ c. search needs)
+    (λ c. search needs)
+    add-five-requires
+    returns-2)

@@ -15,14 +15,14 @@ use Rattle.bids.proofs.open_right.Tie as tie
 
 returns : tie.Need-returns
 returns c =
-    let a = c .before .before .before .before .before .before .before .args in
+    let a = c .before .before .before .before .before .before .before .before .args in
     let five : length (a .t5) ≡ 5 = search needs in
     record {
-      cells = c .before .before .before .before .before .cells-in .ensures;
+      cells = c .before .before .before .before .before .before .cells-in .ensures;
       mw-five = five;
       bytes = (search needs, search needs, search needs);
-      number-is = c .before .before .before .count-in .ensures;
-      cells-are = c .add-row .ensures ∙ ap (λ (mw : List ℕ). withRow RIGHTS (c .before .before .before .count-in .result) (a .holder ∷ a .direction ∷ a .session ∷ mw) (now (a .book))) (five-mw (a .t5) five);
+      number-is = c .before .before .before .before .count-in .ensures;
+      cells-are = c .add-row .ensures ∙ ap (λ (mw : List ℕ). withRow RIGHTS (c .before .before .before .before .count-in .result) (a .holder ∷ a .direction ∷ a .session .0 ∷ mw) (now (a .book))) (five-mw (a .t5) five);
     }
 
 pub open-right-spec : {M : Type 1} → statement M
@@ -31,6 +31,7 @@ open-right-spec =
     (tie.spec
     (λ c κs. search needs)
     (λ c κs. search needs)
+    (λ c. search needs)
     (λ c. search needs)
     (λ c. search needs)
     (λ c. search needs)

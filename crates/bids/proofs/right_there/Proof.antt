@@ -1,14 +1,14 @@
 -- `bids::right_there` meets its contract.
 -- Assumes nothing.
-use Rattle.bids.specs.Work.{rightIn}
-use Rattle.bids.proofs.Rights.{right-row}
+use Rattle.bids.proofs.Rights.{right-read}
 use borrow.Author.Needs.{needs}
 use Rattle.bids.proofs.right_there.Statement.{statement}
 use Rattle.bids.proofs.right_there.Tie as tie
 
 returns : tie.Need-returns
-unfolding rightIn
-returns c = rw (right-row _ _)
+returns c =
+    let s = c .before .before .before .before .before in
+    right-read _ _ _ _ _ _ (s .before .before .right-holder .ensures) (s .before .right-direction .ensures) (s .right-session .ensures)
 
 pub right-there-spec : {M : Type 1} → statement M
 right-there-spec =
@@ -17,18 +17,9 @@ right-there-spec =
     (λ c. search needs)
     (λ c. search needs)
     (λ c. search needs)
-    (λ c. search needs)
-    (λ c. search needs)
-    (λ c. search needs)
-    (λ c. search needs)
-    (λ c. search needs)
-    (λ c. search needs)
-    (λ c. search needs)
-    (λ c. search needs)
-    (λ c. search needs)
-    (λ c. search needs)
-    (λ c. search needs)
-    (λ c. search needs)
+    (λ c κs. search needs)
+    (λ c κs. search needs)
+    (λ c κs. search needs)
     (λ c. search needs)
     (λ c. search needs)
     (λ c. search needs)

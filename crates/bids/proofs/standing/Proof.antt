@@ -4,6 +4,7 @@ use mathlib.Core.Path.{_≡_, sym, _∙_}
 use Prim.Native.Nat.{_≤_, _+_, _-_}
 use native.Mathlib.Omega.{arith}
 use borrow.Author.Needs.{needs}
+use Rattle.rules.specs.Book.{rightLimit}
 use Rattle.cells.specs.Loops.{each}
 use Rattle.cells.proofs.Turns.{each-start, each-next, each-done, told-true, told-false}
 use Rattle.cells.specs.Search.{tryRow, firstRow}
@@ -16,7 +17,7 @@ use Rattle.bids.proofs.standing.Tie as tie
 
 abbrev Inv-loop : tie.InvT-loop
 Inv-loop book holder direction session count i₀ i =
-    ((i ≤ count) × (count ≤ 512)) × (standingIn book holder direction session ≡ each (tryRow (isRightOf holder direction session) (rightAt book)) (count - i) i Nothing)
+    ((i ≤ count) × (count ≤ rightLimit)) × (standingIn book holder direction (session .0) ≡ each (tryRow (isRightOf holder direction (session .0)) (rightAt book)) (count - i) i Nothing)
 
 abbrev μ-loop : tie.MeasureT-loop
 μ-loop book holder direction session count i₀ i = count - i
@@ -46,6 +47,7 @@ standing-spec =
     μ-loop
     (λ c κs. search needs)
     loop-holds
+    (λ c. search needs)
     (λ c κs. search needs)
     returns
     (λ c. search needs)

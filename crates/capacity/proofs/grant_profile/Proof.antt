@@ -10,8 +10,8 @@ use Rattle.capacity.proofs.grant_profile.Tie as tie
 returns : tie.Need-returns
 unfolding grantedProfile
 returns c =
-    let told = c .before .before in
-    c .add .ensures ∙ sym (told-true _ _ (told .before .holds .ensures) (told .if1 .taken))
+    let told = c .before .before .before in
+    rw (← c .before .before .place-of .ensures .place-is) (c .add .ensures ∙ sym (told-true _ _ (told .before .holds .ensures) (told .if1 .taken)))
 
 returns-2 : tie.Need-returns-2
 unfolding grantedProfile
@@ -23,10 +23,7 @@ grant-profile-spec =
     (tie.spec
     (λ c κs. search needs)
     (λ c. search needs)
-    (λ c. search needs)
-    (λ c. search needs)
-    (λ c. search needs)
-    (λ c. search needs)
+    (λ c κs. search needs)
     (λ c. search needs)
     (λ c κs. search needs)
     returns

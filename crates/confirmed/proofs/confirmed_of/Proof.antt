@@ -5,6 +5,7 @@ use mathlib.Core.Path.{_≡_, sym, _∙_}
 use native.Mathlib.Omega.{arith}
 use borrow.Author.Needs.{needs}
 use denote.Ref.{now}
+use Rattle.rules.specs.Book.{rightLimit}
 use Rattle.rules.specs.Refusals.{isMatched}
 use Rattle.cells.specs.Layout.{RIGHTS}
 use Rattle.cells.specs.View.{counted, rightAt, bookOf}
@@ -14,7 +15,7 @@ use Rattle.confirmed.proofs.confirmed_of.Statement.{statement}
 use Rattle.confirmed.proofs.confirmed_of.Tie as tie
 
 -- the right is there
-known : (c : tie.Else1) → let a = c .before .before .args in a .right < counted (now (a .book)) RIGHTS 512
+known : (c : tie.Else1) → let a = c .before .before .args in a .right < counted (now (a .book)) RIGHTS rightLimit
 known c = rw (c .before .count-in .ensures) at (c .if1 .left)
 
 -- the pair is there

@@ -5,6 +5,7 @@ use Prim.Native.Nat.{ℕ, _≤_, _+_, _-_}
 use native.Mathlib.Omega.{arith}
 use borrow.Author.Needs.{needs}
 use lib.ListN.{length, take, length-set}
+use Rattle.rules.specs.Book.{pairLimit}
 use Rattle.rules.specs.Nominations.{lowerTotal}
 use Rattle.cells.specs.Loops.{rows}
 use Rattle.cells.specs.View.{pairAt, bookOf}
@@ -15,7 +16,7 @@ use Rattle.confirmed.proofs.pairs_of.Tie as tie
 
 abbrev Inv-loop : tie.InvT-loop
 Inv-loop book right pairs₀ count₀ entries i₀ pairs count i =
-    (((i ≤ entries) × (entries ≤ 512)) × ((count ≤ i) × (length pairs ≡ 512)))
+    (((i ≤ entries) × (entries ≤ pairLimit)) × ((count ≤ i) × (length pairs ≡ pairLimit)))
     × ((k : ℕ) → totalLower k (take count pairs) + lowerTotal right k (rows (pairAt book) (entries - i) i) ≡ lowerTotal right k (bookOf book .pairs))
 
 abbrev μ-loop : tie.MeasureT-loop

@@ -4,6 +4,7 @@ use mathlib.Core.Path.{_≡_}
 use Prim.Native.Nat.{_≤_, _+_, _*_, _-_}
 use native.Mathlib.Omega.{arith}
 use borrow.Author.Needs.{needs}
+use Rattle.rules.specs.Book.{pairLimit}
 use Rattle.rules.specs.Nominations.{sideTotal}
 use Rattle.cells.specs.Loops.{each}
 use Rattle.cells.specs.View.{bookOf}
@@ -14,7 +15,7 @@ use Rattle.marks.proofs.side_total.Tie as tie
 
 abbrev Inv-loop : tie.InvT-loop
 Inv-loop book right side hour count total₀ i₀ total i =
-    (((i ≤ count) × (count ≤ 512)) × (total ≤ i * 4294967295)) × (total + each (addPair book right side hour) (count - i) i 0 ≡ sideTotal right side hour (bookOf book .pairs))
+    (((i ≤ count) × (count ≤ pairLimit)) × (total ≤ i * 4294967295)) × (total + each (addPair book right side hour) (count - i) i 0 ≡ sideTotal right side hour (bookOf book .pairs))
 
 abbrev μ-loop : tie.MeasureT-loop
 μ-loop book right side hour count total₀ i₀ total i = count - i

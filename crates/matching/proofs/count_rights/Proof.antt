@@ -5,6 +5,7 @@ use Prim.Native.Nat.{_≤_, _+_, _-_}
 use native.Mathlib.Nat.{zero-add, add-zero, add-assoc}
 use native.Mathlib.Omega.{arith}
 use borrow.Author.Needs.{needs}
+use Rattle.rules.specs.Book.{rightLimit}
 use Rattle.rules.specs.Nominations.{countRights}
 use Rattle.cells.specs.Loops.{each}
 use Rattle.cells.specs.View.{bookOf}
@@ -16,7 +17,7 @@ use Rattle.matching.proofs.count_rights.Tie as tie
 
 abbrev Inv-loop : tie.InvT-loop
 Inv-loop book direction session rights count₀ i₀ count i =
-    ((i ≤ rights) × ((rights ≤ 512) × (count ≤ i))) × (countRights direction session (bookOf book .rights) ≡ count + each (tally book direction session) (rights - i) i 0)
+    ((i ≤ rights) × ((rights ≤ rightLimit) × (count ≤ i))) × (countRights direction (session .0) (bookOf book .rights) ≡ count + each (tally book direction (session .0)) (rights - i) i 0)
 
 abbrev μ-loop : tie.MeasureT-loop
 μ-loop book direction session rights count₀ i₀ count i = rights - i

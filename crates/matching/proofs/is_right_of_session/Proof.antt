@@ -12,7 +12,9 @@ returns c = rw (← c .before .right-direction .ensures, ne-eqb _ _ (c .if1 .tak
 
 returns-2 : tie.Need-returns-2
 unfolding isOf
-returns-2 c = rw (← c .before .before .right-direction .ensures, eq-eqb _ _ (c .before .if1 .left), c .right-session .ensures)
+returns-2 c =
+    let s = c .before .before in
+    rw (← s .before .before .right-direction .ensures, eq-eqb _ _ (s .before .if1 .left), ← s .right-session .ensures)
 
 pub is-right-of-session-spec : {M : Type 1} → statement M
 is-right-of-session-spec =

@@ -10,12 +10,12 @@ use Rattle.offers.proofs.left_of_direction.Tie as tie
 returns : tie.Need-returns
 returns c = record { reply = direction-unknown _ _ _ (told (c .before .direction-hour-unknown .ensures) (c .if1 .taken)) }
 
-left-at-requires : tie.Need-left-at-requires
-left-at-requires c κs = slot (known _ _ _ (told (c .before .direction-hour-unknown .ensures) (c .if1 .left)))
+left-read-requires : tie.Need-left-read-requires
+left-read-requires c κs = slot (known _ _ _ (told (c .before .direction-hour-unknown .ensures) (c .if1 .left)))
 
 returns-2 : tie.Need-returns-2
-returns-2 c = record { reply = rw (c .left-at .ensures) (direction-left-is _ _ _ (told (c .before .before .direction-hour-unknown .ensures) (c .before .if1 .left))) }
+returns-2 c = record { reply = rw (c .left-read .ensures) (direction-left-is _ _ _ (told (c .before .before .direction-hour-unknown .ensures) (c .before .if1 .left))) }
 
 pub left-of-direction-spec : {M : Type 1} → statement M
 left-of-direction-spec =
-    tie.close (tie.spec (λ c κs. search needs) returns left-at-requires returns-2)
+    tie.close (tie.spec (λ c κs. search needs) returns left-read-requires returns-2)

@@ -4,6 +4,7 @@ use mathlib.Core.Path.{_≡_, sym, _∙_}
 use Prim.Native.Nat.{_≤_, _-_}
 use native.Mathlib.Omega.{arith}
 use borrow.Author.Needs.{needs}
+use Rattle.rules.specs.Book.{pairLimit}
 use Rattle.cells.specs.Loops.{each}
 use Rattle.cells.proofs.Turns.{each-start, each-next, each-done, told-true, told-false}
 use Rattle.cells.specs.Search.{tryRow, firstRow}
@@ -16,7 +17,7 @@ use Rattle.pairs.proofs.standing_pair.Tie as tie
 
 abbrev Inv-loop : tie.InvT-loop
 Inv-loop book right out into count i₀ i =
-    ((i ≤ count) × (count ≤ 512)) × (standingIn book right out into ≡ each (tryRow (isPairOf right out into) (pairAt book)) (count - i) i Nothing)
+    ((i ≤ count) × (count ≤ pairLimit)) × (standingIn book right out into ≡ each (tryRow (isPairOf right out into) (pairAt book)) (count - i) i Nothing)
 
 abbrev μ-loop : tie.MeasureT-loop
 μ-loop book right out into count i₀ i = count - i

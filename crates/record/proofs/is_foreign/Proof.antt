@@ -5,7 +5,7 @@ use mathlib.Core.Path.{ap, _∙_}
 use borrow.Author.Needs.{needs}
 use Rattle.rules.specs.Records.{Kind, kindAt}
 use Rattle.record.specs.declared.KindMaps.{KindMaps}
-use Rattle.record.proofs.Marks.{marked}
+use Rattle.record.proofs.KindBits.{marked}
 use Rattle.record.proofs.is_foreign.Statement.{statement}
 use Rattle.record.proofs.is_foreign.Tie as tie
 

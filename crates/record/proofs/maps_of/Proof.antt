@@ -5,8 +5,8 @@ use mathlib.Core.Path.{_≡_, sym, ap}
 use native.Mathlib.Omega.{arith}
 use Rattle.rules.specs.Basics.{mapOf, has}
 use Rattle.rules.specs.Records.{kinds, kindAt}
-use Rattle.record.specs.Steps.{marks, kindMaps}
-use Rattle.record.proofs.Marks.{no-kind}
+use Rattle.record.specs.Steps.{amongBits, kindMaps}
+use Rattle.record.proofs.KindBits.{no-kind}
 use Rattle.record.proofs.maps_of.Statement.{statement}
 use Rattle.record.proofs.maps_of.Tie as tie
 
@@ -14,7 +14,7 @@ maps-at : (kind n : ℕ) → kind ≡ n → kindMaps (kindAt n) ≡ kindMaps (ki
 maps-at kind n e = sym (ap (λ (k : ℕ). kindMaps (kindAt k)) e)
 
 pub maps-of-spec : {M : Type 1} → statement M
-unfolding marks mapOf has kinds
+unfolding amongBits mapOf has kinds
 maps-of-spec =
     tie.close
     (tie.spec

@@ -4,7 +4,7 @@ use mathlib.Core.Path.{refl}
 use borrow.Author.Needs.{needs}
 use Rattle.rules.specs.Basics.{anyAbove}
 use Rattle.rules.specs.Records.{widths}
-use Rattle.record.proofs.Fields.{at-most}
+use Rattle.rules.proofs.Above.{at-most}
 use Rattle.record.proofs.size_of.Statement.{statement}
 use Rattle.record.proofs.size_of.Tie as tie
 

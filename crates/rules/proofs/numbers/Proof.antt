@@ -50,7 +50,7 @@ returns-15 : tie.Need-returns-15
 returns-15 c = rw (c .before .enum-told14 .given .1, c .refused14 .ensures)
 
 returns-16 : tie.Need-returns-16
-returns-16 c = rw (c .before .before .before .answer2 .given .1, c .limit-number .ensures)
+returns-16 c = rw (c .before .before .before .answer2 .given .1, c .capacity-number .ensures)
 
 pub numbers-spec : {M : Type 1} → statement M
 numbers-spec =

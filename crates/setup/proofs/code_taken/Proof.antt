@@ -5,6 +5,7 @@ use mathlib.Core.Bool.{false}
 use Prim.Native.Nat.{_≤_, _-_}
 use native.Mathlib.Omega.{arith}
 use borrow.Author.Needs.{needs}
+use Rattle.rules.specs.Book.{partyLimit}
 use Rattle.rules.specs.Setup.{codeTaken}
 use Rattle.cells.specs.Loops.{each}
 use Rattle.cells.specs.View.{bookOf, partyAt}
@@ -15,7 +16,7 @@ use Rattle.setup.proofs.code_taken.Statement.{statement}
 use Rattle.setup.proofs.code_taken.Tie as tie
 
 abbrev Inv-loop : tie.InvT-loop
-Inv-loop book code count k₀ k = ((k ≤ count) × (count ≤ 64)) × (codeTaken code (bookOf book .parties) ≡ each (tryRow (sameCode code) (partyAt book)) (count - k) k false)
+Inv-loop book code count k₀ k = ((k ≤ count) × (count ≤ partyLimit)) × (codeTaken code (bookOf book .parties) ≡ each (tryRow (sameCode code) (partyAt book)) (count - k) k false)
 
 abbrev μ-loop : tie.MeasureT-loop
 μ-loop book code count k₀ k = count - k

@@ -5,6 +5,7 @@ use mathlib.Core.Bool.{false}
 use Prim.Native.Nat.{_≤_, _-_}
 use native.Mathlib.Omega.{arith}
 use borrow.Author.Needs.{needs}
+use Rattle.rules.specs.Book.{directionLimit}
 use Rattle.rules.specs.Setup.{directionTaken}
 use Rattle.cells.specs.Loops.{each}
 use Rattle.cells.specs.View.{bookOf, directionAt}
@@ -16,7 +17,7 @@ use Rattle.setup.proofs.direction_taken.Tie as tie
 
 abbrev Inv-loop : tie.InvT-loop
 Inv-loop book out into model count k₀ k =
-    ((k ≤ count) × (count ≤ 24))
+    ((k ≤ count) × (count ≤ directionLimit))
     × (directionTaken out into model (bookOf book .directions) ≡ each (tryRow (clashes out into model) (directionAt book)) (count - k) k false)
 
 abbrev μ-loop : tie.MeasureT-loop

@@ -6,6 +6,7 @@ use Prim.Native.Nat.{_+_, _*_, _-_, _≤_, _<_}
 use borrow.Author.Needs.{needs}
 use borrow.Author.Tests.{eq-eqb, ne-eqb}
 use lib.ListN.{length}
+use Rattle.rules.specs.Book.{partyLimit}
 use Rattle.cells.specs.Layout.{PARTIES}
 use Rattle.cells.specs.Loops.{each}
 use Rattle.cells.specs.View.{partyAt}
@@ -17,7 +18,7 @@ use Rattle.setup.proofs.same_code.Tie as tie
 
 abbrev Inv-loop : tie.InvT-loop
 Inv-loop book party code at k₀ k =
-    ((k ≤ 16) × (length code ≡ 16) × (party < 64) × (at ≡ PARTIES + 1 + party * 17))
+    ((k ≤ 16) × (length code ≡ 16) × (party < partyLimit) × (at ≡ PARTIES + 1 + party * 17))
     × (sameCode code (partyAt book party) ≡ each (tryByte book at code) (16 - k) k true)
 
 abbrev μ-loop : tie.MeasureT-loop

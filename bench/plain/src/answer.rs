@@ -1,0 +1,52 @@
+//! What the book answers.
+
+/// What is short in an hour: the bid's direction, or a profile that holds it, by number.
+#[derive(Clone, Copy, PartialEq, Eq, Debug)]
+pub enum Limit {
+    Direction,
+    Profile(u8),
+}
+
+/// Granted with its detail, or the refusal by its trade word.
+#[derive(Clone, Copy, PartialEq, Eq, Debug)]
+pub enum Answer {
+    Granted(u32),
+    Day,
+    Field,
+    SetupShut,
+    Clock,
+    Unknown,
+    Taken,
+    Gate,
+    Hours,
+    Access,
+    Owner,
+    Cycle,
+    Full,
+    Below,
+    Short(u8, Limit),
+}
+
+impl Answer {
+    /// The number of the answer, 0 for granted, and its two details.
+    pub fn numbers(self) -> (u8, u32, u32) {
+        match self {
+            Answer::Granted(detail) => (0, detail, 0),
+            Answer::Day => (2, 0, 0),
+            Answer::Field => (3, 0, 0),
+            Answer::SetupShut => (4, 0, 0),
+            Answer::Clock => (5, 0, 0),
+            Answer::Unknown => (6, 0, 0),
+            Answer::Taken => (7, 0, 0),
+            Answer::Gate => (8, 0, 0),
+            Answer::Hours => (9, 0, 0),
+            Answer::Access => (10, 0, 0),
+            Answer::Owner => (11, 0, 0),
+            Answer::Cycle => (12, 0, 0),
+            Answer::Full => (13, 0, 0),
+            Answer::Below => (14, 0, 0),
+            Answer::Short(hour, Limit::Direction) => (15, hour.into(), 0),
+            Answer::Short(hour, Limit::Profile(p)) => (15, hour.into(), 1 + u32::from(p)),
+        }
+    }
+}

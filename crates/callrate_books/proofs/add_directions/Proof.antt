@@ -1,0 +1,15 @@
+use borrow.Author.Needs.{needs}
+use Prim.Native.Nat.{_≤_, _-_}
+use Rattle.callrate_books.proofs.add_directions.Statement.{statement}
+use Rattle.callrate_books.proofs.add_directions.Tie as tie
+
+abbrev Inv-loop : tie.InvT-loop
+Inv-loop book₀ k₀ book k = k ≤ 49
+
+abbrev μ-loop : tie.MeasureT-loop
+μ-loop book₀ k₀ book k = 49 - k
+
+pub add-directions-spec : {M : Type 1} → statement M
+add-directions-spec =
+    tie.close
+    (tie.spec Inv-loop μ-loop (λ c. search needs) (λ c κs. search needs) (λ c. search needs) (λ c. search needs) (λ c. search needs) (λ c. search needs))

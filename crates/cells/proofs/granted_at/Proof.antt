@@ -1,0 +1,12 @@
+-- `cells::granted_at` meets its contract.
+-- Assumes nothing.
+use borrow.Author.Needs.{needs}
+use Rattle.cells.proofs.granted_at.Statement.{statement}
+use Rattle.cells.proofs.granted_at.Tie as tie
+
+returns : tie.Need-returns
+returns c = rw (c .before .place-of .ensures .place-is)
+
+pub granted-at-spec : {M : Type 1} → statement M
+granted-at-spec =
+    tie.close (tie.spec (λ c κs. search needs) (λ c. search needs) (λ c. search needs) (λ c. search needs) returns)
