@@ -2,7 +2,7 @@
 
 /// What is short in an hour: the bid's direction, or a profile that holds it, by number.
 #[derive(Clone, Copy, PartialEq, Eq, Debug)]
-pub enum Limit {
+pub enum CapacityOf {
     Direction,
     Profile(u8),
 }
@@ -24,7 +24,7 @@ pub enum Answer {
     Cycle,
     Full,
     Below,
-    Short(u8, Limit),
+    Short(u8, CapacityOf),
 }
 
 impl Answer {
@@ -45,8 +45,8 @@ impl Answer {
             Answer::Cycle => (12, 0, 0),
             Answer::Full => (13, 0, 0),
             Answer::Below => (14, 0, 0),
-            Answer::Short(hour, Limit::Direction) => (15, hour.into(), 0),
-            Answer::Short(hour, Limit::Profile(p)) => (15, hour.into(), 1 + u32::from(p)),
+            Answer::Short(hour, CapacityOf::Direction) => (15, hour.into(), 0),
+            Answer::Short(hour, CapacityOf::Profile(p)) => (15, hour.into(), 1 + u32::from(p)),
         }
     }
 }

@@ -1,7 +1,7 @@
 //! The book of one delivery day: set-up, offers, bids, rights, nominations, matchings and the reads.
 //! A call looks for the lowest refusal number that applies, and changes nothing before it is sure that none does.
 
-use crate::answer::{Answer, Limit};
+use crate::answer::{Answer, CapacityOf};
 use crate::code::{is_party_code, Code};
 use crate::day::{Day, Model};
 
@@ -272,16 +272,16 @@ impl Book {
     }
 
     /// The first hour that is short; in it the direction before the profiles, the lowest profile first.
-    fn shortage(&self, direction: u8, first: u8, mw: &[u16]) -> Option<(u8, Limit)> {
+    fn shortage(&self, direction: u8, first: u8, mw: &[u16]) -> Option<(u8, CapacityOf)> {
         let own = &self.directions[usize::from(direction)].capacity;
         for (hour, &asked) in (first..).zip(mw) {
             let asked = u32::from(asked);
             if own[at(hour)].left() < asked {
-                return Some((hour, Limit::Direction));
+                return Some((hour, CapacityOf::Direction));
             }
             for (number, profile) in (0..).zip(&self.profiles) {
                 if profile.holds(direction) && profile.capacity[at(hour)].left() < asked {
-                    return Some((hour, Limit::Profile(number)));
+                    return Some((hour, CapacityOf::Profile(number)));
                 }
             }
         }
@@ -359,8 +359,8 @@ impl Book {
         }
         let first = self.day.first_hour(model, session);
         let in_session = &mw[..self.day.hours_in(model, session)];
-        if let Some((hour, limit)) = self.shortage(direction, first, in_session) {
-            return Answer::Short(hour, limit);
+        if let Some((hour, capacity)) = self.shortage(direction, first, in_session) {
+            return Answer::Short(hour, capacity);
         }
         self.grant(direction, first, in_session);
         self.clock = Some(time);

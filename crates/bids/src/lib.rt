@@ -201,7 +201,7 @@ fn open_right(book: &mut Book, holder: u8, direction: u8, session: Session, mw: 
     requires { ⌜ counted (now book) RIGHTS rightLimit < rightLimit ⌝ }
     ensures { λ r. ⌜ Opened (now (book .entry)) holder direction (session .0) mw r (now (book .exit)) ⌝ }
 {
-    let cells = cells::cells_in(book);
+    cells::cells_in(book);
     let count = cells::count_in(book, cells::RIGHTS, cells::RIGHT_LIMIT);
     let row = [
         holder as u32,
@@ -248,7 +248,7 @@ fn book_right(
     requires { ⌜ Enters (now book) model holder direction (session .0) entry ⌝ }
     ensures { λ r. ⌜ Booked (now (book .entry)) model holder direction (session .0) mw r (now (book .exit)) ⌝ }
 {
-    let cells = cells::cells_in(book);
+    cells::cells_in(book);
     let Found::At(i) = right_by_entry(book, entry, model, holder, direction, session) else {
         return open_right(book, holder, direction, session, mw);
     };
@@ -269,7 +269,7 @@ fn place_bid(
     requires { ⌜ Cleared (now book) time party direction (session .0) mw entry ⌝ }
     ensures { λ r. ⌜ Placed (now (book .entry)) time party direction (session .0) mw r (now (book .exit)) ⌝ }
 {
-    let cells = cells::cells_in(book);
+    cells::cells_in(book);
     let hours = cells::hours(book);
     let model = cells::model_of(book, direction);
     let first = day::first_hour(hours, model, session);

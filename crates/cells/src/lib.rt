@@ -82,11 +82,11 @@ fn sound(s: &[u32]) -> usize
     s.len()
 }
 
-// The count of cells and their range, for the proofs of callers.
-pub fn cells_in(book: &Book) -> usize
+// It does nothing: the count of cells and their range are for the proofs of callers.
+pub fn cells_in(book: &Book)
     ensures { λ r. ⌜ Cells (now (book .entry)) ⌝ }
 {
-    sound(book)
+    sound(book);
 }
 
 // ---- reads

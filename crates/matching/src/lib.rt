@@ -109,7 +109,7 @@ fn place_match(book: &mut Book, time: u32, direction: u8, session: Session) -> u
     requires { ⌜ number (bookOf (now book)) (Match time direction (session .0)) ≡ 0 ⌝ }
     ensures { λ r. ⌜ Placed (now (book .entry)) time direction (session .0) r (now (book .exit)) ⌝ }
 {
-    let cells = cells::cells_in(book);
+    cells::cells_in(book);
     let count = count_rights(book, direction, session);
     cells::set_matched(book, direction, session);
     cells::set_clock(book, time);

@@ -106,7 +106,7 @@ fn place_offer(book: &mut Book, time: u32, row: u8, hour: Hour, mw: u16) -> u32
     requires { ⌜ InHour row (hour .0) ⌝ }
     ensures { λ r. ⌜ Placed (now (book .entry)) time row (hour .0) mw r (now (book .exit)) ⌝ }
 {
-    let count = cells::cells_in(book);
+    cells::cells_in(book);
     let granted = cells::granted_at(book, row, hour);
     cells::set_offered(book, row, hour, mw);
     cells::set_clock(book, time);

@@ -26,6 +26,6 @@ pub write-back : WriteBack
 write-back bytes r before after answer read granted fits w =
     let call = ap (λ (x : RecordReply). x .call) (read .reply) in
     let size : r .length ≡ reading bytes .length = ap (λ (x : RecordReply). x .length) (read .reply) in
-    let back = written-read bytes (read .bytes-fit) (sym (ap (λ (x : RecordReply). x .number) (read .reply)) ∙ granted) .1 before (rw size at fits) in
+    let back = written-read bytes (read .bytes-fit) (sym (ap (λ (x : RecordReply). x .reply .number) (read .reply)) ∙ granted) .1 before (rw size at fits) in
     let told = ap (λ (c : CallRecord). writing c before) call ∙ back in
     (w .reply ∙ ap (λ (x : Written). x .reply) told ∙ rw size, w .buffer ∙ ap (λ (x : Written). x .buffer) told ∙ rw size)

@@ -19,9 +19,9 @@ pub record CallFits (c : CallRecord) : Type 0 where
   pub hours : length (c .mw) ≡ 5
   pub fields : FieldsFit (fieldsOf c)
 
--- the number of the answer, the length and the call, as document 01 has them
+-- the answer, the length and the call, as document 01 has them
 abbrev pub readSaid : RecordRead → RecordReply
-readSaid r = record { number = said (r .answer) .number; length = r .length; call = r .call }
+readSaid r = record { reply = said (r .answer); length = r .length; call = r .call }
 
 pub record Reads (bytes : List ℕ) (r : RecordRead) : Type 0 where
   pub bytes-fit : (i : ℕ) → getD bytes i 0 < 256

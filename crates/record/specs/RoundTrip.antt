@@ -4,6 +4,7 @@ use Prim.Native.Nat.{ℕ, _≤_}
 use mathlib.Core.Path.{_≡_}
 use mathlib.Core.List.{List, _++_}
 use lib.ListN.{length, take, drop}
+use Rattle.rules.specs.Calls.{noDetails}
 use Rattle.rules.specs.Said.{said}
 use Rattle.rules.specs.declared.Answer.{Answer}
 use Rattle.rules.specs.declared.CallRecord.{CallRecord}
@@ -17,7 +18,7 @@ ReadBack =
     → Writes call before answer after
     → said answer .number ≡ 0
     → Reads after r
-    → readSaid r ≡ record { number = 0; length = said answer .first; call = call }
+    → readSaid r ≡ record { reply = noDetails 0; length = said answer .first; call = call }
 
 -- the call that was read from bytes is written, to any buffer with room for it, as those same bytes, and nothing past them changes
 abbrev pub WriteBack : Type 0

@@ -191,14 +191,14 @@ bid-capacities b d first mw s e =
 
 -- ---- rights and pairs
 
--- a table of 512 that is not full where a new entry is needed
-room : (n : ℕ) (need : Bool) → (leb 512 n && need) ≡ false → n ≤ 512 → cond need (suc n) n ≤ 512
-room n false e h = h
-room n true e h = go (leb 512 n) refl
+-- a table within its limit that is not full where a new entry is needed
+not-above : (most n : ℕ) (need : Bool) → (leb most n && need) ≡ false → n ≤ most → cond need (suc n) n ≤ most
+not-above most n false e h = h
+not-above most n true e h = go (leb most n) refl
   where
-    go : (t : Bool) → leb 512 n ≡ t → suc n ≤ 512
+    go : (t : Bool) → leb most n ≡ t → suc n ≤ most
     go true t = absurd (true≢false (rw t at e))
-    go false t = leb-false 512 n t
+    go false t = leb-false most n t
 
 length-one-more : {A : Type 0} (xs : List A) (x : A) → length (xs ++ (x ∷ [])) ≡ suc (length xs)
 length-one-more xs x = rw length-append (omega arith)
@@ -298,7 +298,7 @@ sound-step b (Bid time p d session mw) g s =
       s .0,
       bid-capacities b d (firstHour (b .hours) model session) mw (s .1) (fails g 15 tt),
       record {
-        rights = rw (length-with model p d session mw (b .rights)) (room (length (b .rights)) _ (fails g 13 tt) (s .2 .rights));
+        rights = rw (length-with model p d session mw (b .rights)) (not-above rightLimit (length (b .rights)) _ (fails g 13 tt) (s .2 .rights));
         pairs = s .2 .pairs;
       },
     )
@@ -307,7 +307,7 @@ sound-step b (Nominate time sender other r side mw) g s = (
   s .1,
   record {
     rights = s .2 .rights;
-    pairs = rw (length-pairs r (outOf sender other side) (intoOf sender other side) side mw (b .pairs)) (room (length (b .pairs)) _ (fails g 13 tt) (s .2 .pairs));
+    pairs = rw (length-pairs r (outOf sender other side) (intoOf sender other side) side mw (b .pairs)) (not-above pairLimit (length (b .pairs)) _ (fails g 13 tt) (s .2 .pairs));
   },
 )
 sound-step b (Match time d session) g s = s

@@ -12,6 +12,7 @@ use lib.ListN.{length, getD, take, drop, length-append, List·getD-eq-default}
 use lib.Seq.{take-suc, append-snoc, getD-drop, drop-drop, drop-at, length-take-le}
 use borrow.Author.Tests.{eqb-true, eq-eqb, ltb-false, le-ltb, not-false}
 use Rattle.rules.specs.Basics.{bit, mapOf, has}
+use Rattle.rules.specs.Calls.{noDetails}
 use Rattle.rules.specs.Refusals.{order, firstOf}
 use Rattle.rules.specs.Records.{Kind, widths, fieldsOf, callOf, kindAt, isKind, stands, standing, mapFor, foreign, bytesOf, body, recordOf, writerRefuses, Written, writing, numberAt, mapAt, taking, fieldsAt, endAt, fieldsIn, endIn, readerRefuses, RecordReply, noCall, reading}
 use Rattle.rules.specs.declared.CallRecord.{CallRecord}
@@ -173,7 +174,7 @@ fields-of-call s = refl
 -- ---- granted or refused
 
 pub reading-by : (s : List ℕ) (t : Bool) → readerRefuses s 1 ≡ t
-    → reading s ≡ record { number = cond t 1 0; length = cond t 0 (endIn s); call = cond t noCall (callOf (fieldsIn s)) }
+    → reading s ≡ record { reply = noDetails (cond t 1 0); length = cond t 0 (endIn s); call = cond t noCall (callOf (fieldsIn s)) }
 unfolding reading readerRefuses firstOf order
 reading-by s true e = rw e
 reading-by s false e = rw e
@@ -191,8 +192,8 @@ not-refused : (t : Bool) → _≡_ {A = ℕ} (cond t 1 0) 0 → t ≡ false
 not-refused false e = refl
 not-refused true e = absurd (omega arith)
 
-pub reader-accepts : (s : List ℕ) → reading s .number ≡ 0 → readerRefuses s 1 ≡ false
-reader-accepts s e = not-refused (readerRefuses s 1) (sym (ap (λ (r : RecordReply). r .number) (reading-by s (readerRefuses s 1) refl)) ∙ e)
+pub reader-accepts : (s : List ℕ) → reading s .reply .number ≡ 0 → readerRefuses s 1 ≡ false
+reader-accepts s e = not-refused (readerRefuses s 1) (sym (ap (λ (r : RecordReply). r .reply .number) (reading-by s (readerRefuses s 1) refl)) ∙ e)
 
 pub writer-accepts : (c : CallRecord) (b : List ℕ) → writing c b .reply .number ≡ 0 → writerRefuses c b 1 ≡ false
 writer-accepts c b e = not-refused (writerRefuses c b 1) (sym (ap (λ (r : Written). r .reply .number) (writing-by c b (writerRefuses c b 1) refl)) ∙ e)
@@ -271,7 +272,7 @@ module _ (c : CallRecord) (rest : List ℕ) (hours : length (c .mw) ≡ 5) (fits
       (ap (λ (vs : List ℕ). not (isKind (getD vs 0 0))) (fields-back .0) ∙ ap not kind))
       (ap not (eq-eqb (mapAt s) (mapFor (getD (fieldsIn s) 0 0) (fieldsIn s)) (map-back ∙ sym (ap (λ (vs : List ℕ). mapFor (getD vs 0 0) vs) (fields-back .0)))))
 
-  pub read-written : reading (recordOf c ++ rest) ≡ record { number = 0; length = length (recordOf c); call = c }
+  pub read-written : reading (recordOf c ++ rest) ≡ record { reply = noDetails 0; length = length (recordOf c); call = c }
   read-written = reading-by s false accepted ∙ rw (fields-back .0, fields-back .1, call-of-fields c hours)
 
 -- ---- a record that was read is written back
@@ -296,7 +297,7 @@ readable s e =
       map = eqb-true (mapAt s) (mapFor kind (fieldsIn s)) (not-false (eqb (mapAt s) (mapFor kind (fieldsIn s))) (map-test .1));
     }
 
-module _ (s : List ℕ) (bytes : (i : ℕ) → getD s i 0 < 256) (granted : reading s .number ≡ 0) where
+module _ (s : List ℕ) (bytes : (i : ℕ) → getD s i 0 < 256) (granted : reading s .reply .number ≡ 0) where
   abbrev c′ : CallRecord
   c′ = callOf (fieldsIn s)
 

@@ -142,7 +142,7 @@ cases =
     ∷ record { computed = map (isIn 24 2670) noTuesday ++ (isIn 24 2490 2 ∷ []); said = sixTimes 0 ++ (0 ∷ []) }
     -- the record of a bid, and the call read from it
     ∷ record { computed = recordOf bidRecord; said = bidBytes }
-    ∷ record { computed = reading bidBytes .number ∷ reading bidBytes .length ∷ fieldsOf (reading bidBytes .call); said = 0 ∷ 10 ∷ fieldsOf bidRecord }
+    ∷ record { computed = reading bidBytes .reply .number ∷ reading bidBytes .length ∷ fieldsOf (reading bidBytes .call); said = 0 ∷ 10 ∷ fieldsOf bidRecord }
     -- four hours offered 150, 150, 200, 200: granted, then short in the fourth, and the first still has 50
     ∷ record {
       computed = numbersOf (monday fourHours .replies);

@@ -42,6 +42,6 @@ pub record Demand1 : Type 0 where
   pub rights : (b : Book) (r : ℕ) → Lowest (rightReadRefuses b r) (readRight b r .reply .number)
   pub confirmed : (b : Book) (r o i : ℕ) → Lowest (confirmedReadRefuses b r o i) (readConfirmed b r o i .reply .number)
   -- the reader and the writer of records
-  pub readers : (s : List ℕ) → Lowest (readerRefuses s) (reading s .number)
+  pub readers : (s : List ℕ) → Lowest (readerRefuses s) (reading s .reply .number)
   pub writers : (c : CallRecord) (buffer : List ℕ) → Lowest (writerRefuses c buffer) (writing c buffer .reply .number)
   pub writers-kept : (c : CallRecord) (buffer : List ℕ) → isGrant (writing c buffer .reply) ≡ false → writing c buffer .buffer ≡ buffer

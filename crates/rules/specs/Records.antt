@@ -6,7 +6,7 @@ use mathlib.Core.List.{List, [], _∷_, _++_}
 use lib.Dec.{eqb, ltb}
 use lib.ListN.{length, getD, drop}
 use Rattle.rules.specs.Basics.{bit, mapOf, has}
-use Rattle.rules.specs.Calls.{Reply}
+use Rattle.rules.specs.Calls.{Reply, noDetails}
 use Rattle.rules.specs.Refusals.{order, firstOf}
 use Rattle.rules.specs.declared.CallRecord.{CallRecord}
 
@@ -155,7 +155,7 @@ readerRefuses s n =
     (ltb (length s) 2 || ltb (length s) (endIn s) || bit (mapAt s) 15 || not (isKind kind) || not (eqb (mapAt s) (mapFor kind (fieldsIn s)))) false
 
 pub record RecordReply : Type 0 where
-  pub number : ℕ
+  pub reply : Reply
   pub length : ℕ
   pub call : CallRecord
 
@@ -163,12 +163,12 @@ pub record RecordReply : Type 0 where
 unfoldable pub noCall : CallRecord
 noCall = callOf []
 
--- what follows the record is ignored
+-- what follows the record is ignored; both details are 0
 unfoldable pub reading : List ℕ → RecordReply
 reading s =
     let n : ℕ = firstOf (readerRefuses s) order in
     record {
-      number = n;
+      reply = noDetails n;
       length = cond (eqb n 0) (endIn s) 0;
       call = cond (eqb n 0) (callOf (fieldsIn s)) noCall;
     }

@@ -63,7 +63,7 @@ fn place_row(book: &mut Book, table: usize, limit: u32, row: &[u32]) -> u32
     requires { ⌜ ((1 ≤ length (now row)) × (length (now row) ≤ 17)) × ((limit ≤ CELLS) × (table + 1 + limit * length (now row) ≤ CELLS)) × (counted (now book) table limit < limit) ⌝ }
     ensures { λ r. ⌜ Added (now (book .entry)) table limit (now (row .entry)) r (now (book .exit)) ⌝ }
 {
-    let size = cells::cells_in(book);
+    cells::cells_in(book);
     let count = cells::count_in(book, table, limit);
     cells::add_row(book, table, count, row);
     count
