@@ -1,61 +1,60 @@
 // The marks of a nomination: the hours in which a side's total under a right is above the right.
 ghost use mathlib.Core.Path.{_≡_};
 ghost use mathlib.Core.Bool.{cond};
-ghost use Prim.Native.Nat.{_+_, _*_, _<_, _≤_};
+ghost use Prim.Native.Nat.{_<_, _≤_};
+ghost use lib.Dec.{ltb};
+ghost use lib.ListN.{getD};
 ghost use Rattle.rules.specs.Book.{pairLimit, rightLimit};
-ghost use Rattle.rules.specs.Nominations.{sideTotal, aboveRight, marks};
+ghost use Rattle.rules.specs.Nominations.{sideOf, marks};
 ghost use Rattle.cells.specs.Layout.{RIGHTS};
-ghost use Rattle.cells.specs.View.{cell, pairAt, counted, bookOf};
-ghost use Rattle.marks.specs.Totals.{shareOf};
+ghost use Rattle.cells.specs.View.{pairAt, counted, bookOf};
+ghost use Rattle.marks.specs.Totals.{Bounded, Added, Summed};
 use cells::Book;
 
-// What a pair adds to a side's total under a right, in an hour of the session.
-fn share_of(book: &Book, i: u32, right: u32, side: u8, hour: u8) -> u32
+// The MW of one side of a pair in an hour of the session.
+fn side_mw(book: &Book, i: u32, side: u8, hour: u8) -> u32
     requires { ⌜ (i < pairLimit) × ((side ≤ 1) × (hour < 5)) ⌝ }
-    ensures { λ r. ⌜ r ≡ shareOf right side hour (pairAt (now (book .entry)) i) ⌝ }
+    ensures { λ r. ⌜ r ≡ getD (sideOf side (pairAt (now (book .entry)) i)) hour 0 ⌝ }
 {
-    if book[cells::PAIRS + 1 + i as usize * 13] != right {
-        return 0;
-    }
     book[pairs::side_at(i, side) + hour as usize]
 }
 
-// A side's total over all pairs of a right.
-fn side_total(book: &Book, right: u32, side: u8, hour: u8) -> u64
-    requires { ⌜ (side ≤ 1) × (hour < 5) ⌝ }
-    ensures { λ r. ⌜ r ≡ sideTotal right side hour (bookOf (now (book .entry)) .pairs) ⌝ }
+// The totals of the pairs before number i, with those of pair i added where it is of the right.
+fn with_side(book: &Book, i: u32, right: u32, side: u8, totals: [u64; 5]) -> [u64; 5]
+    requires { ⌜ (i < pairLimit) × ((side ≤ 1) × Bounded i totals) ⌝ }
+    ensures { λ r. ⌜ Added (now (book .entry)) i right side totals r ⌝ }
+{
+    if book[cells::PAIRS + 1 + i as usize * 13] != right {
+        return totals;
+    }
+    [
+        totals[0] + side_mw(book, i, side, 0) as u64,
+        totals[1] + side_mw(book, i, side, 1) as u64,
+        totals[2] + side_mw(book, i, side, 2) as u64,
+        totals[3] + side_mw(book, i, side, 3) as u64,
+        totals[4] + side_mw(book, i, side, 4) as u64,
+    ]
+}
+
+// A side's totals over all pairs of a right, in the five hours of the session.
+fn side_totals(book: &Book, right: u32, side: u8) -> [u64; 5]
+    requires { ⌜ side ≤ 1 ⌝ }
+    ensures { λ r. ⌜ Summed right side (bookOf (now (book .entry)) .pairs) r ⌝ }
 {
     let count = cells::count_in(book, cells::PAIRS, cells::PAIR_LIMIT);
-    let mut total: u64 = 0;
+    let mut totals = [0u64; 5];
     for i in 0..count {
-        total += share_of(book, i, right, side, hour) as u64;
+        let next = with_side(book, i, right, side, totals);
+        totals = next;
     }
-    total
+    totals
 }
 
-// The MW of a right in an hour of its session.
-fn held_mw(book: &Book, right: u16, hour: u8) -> u32
-    requires { ⌜ (right < rightLimit) × (hour < 5) ⌝ }
-    ensures { λ r. ⌜ r ≡ cell (now (book .entry)) (RIGHTS + 4 + right * 8 + hour) ⌝ }
+// The bit of an hour: its total is above the MW of the right.
+fn mark(held: u32, total: u64) -> u32
+    ensures { λ r. ⌜ (r ≡ cond (ltb held total) 1 0) × (r ≤ 1) ⌝ }
 {
-    book[cells::RIGHTS + 4 + right as usize * 8 + hour as usize]
-}
-
-// It is above the right.
-fn is_above(book: &Book, right: u16, side: u8, hour: u8) -> bool
-    requires { ⌜ (right < counted (now book) RIGHTS rightLimit) × ((side ≤ 1) × (hour < 5)) ⌝ }
-    ensures { λ r. ⌜ r ≡ aboveRight (bookOf (now (book .entry)) .rights) (bookOf (now (book .entry)) .pairs) right side hour ⌝ }
-{
-    let held = held_mw(book, right, hour);
-    (held as u64) < side_total(book, right as u32, side, hour)
-}
-
-// The bit of an hour.
-fn mark(book: &Book, right: u16, side: u8, hour: u8) -> u32
-    requires { ⌜ (right < counted (now book) RIGHTS rightLimit) × ((side ≤ 1) × (hour < 5)) ⌝ }
-    ensures { λ r. ⌜ (r ≡ cond (aboveRight (bookOf (now (book .entry)) .rights) (bookOf (now (book .entry)) .pairs) right side hour) 1 0) × (r ≤ 1) ⌝ }
-{
-    if is_above(book, right, side, hour) {
+    if (held as u64) < total {
         return 1;
     }
     0
@@ -66,10 +65,12 @@ pub fn marks(book: &Book, right: u16, side: u8) -> u32
     requires { ⌜ (right < counted (now book) RIGHTS rightLimit) × (side ≤ 1) ⌝ }
     ensures { λ r. ⌜ r ≡ marks (bookOf (now (book .entry)) .rights) (bookOf (now (book .entry)) .pairs) right side ⌝ }
 {
-    let first = mark(book, right, side, 0);
-    let second = mark(book, right, side, 1);
-    let third = mark(book, right, side, 2);
-    let fourth = mark(book, right, side, 3);
-    let fifth = mark(book, right, side, 4);
+    let totals = side_totals(book, right as u32, side);
+    let at = cells::RIGHTS + 4 + right as usize * 8;
+    let first = mark(book[at], totals[0]);
+    let second = mark(book[at + 1], totals[1]);
+    let third = mark(book[at + 2], totals[2]);
+    let fourth = mark(book[at + 3], totals[3]);
+    let fifth = mark(book[at + 4], totals[4]);
     first + 2 * (second + 2 * (third + 2 * (fourth + 2 * fifth)))
 }

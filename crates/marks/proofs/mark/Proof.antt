@@ -1,15 +1,14 @@
 -- `marks::mark` meets its contract.
 -- Assumes nothing.
 use Rattle.marks.proofs.Sums.{mark-on, mark-off}
-use borrow.Author.Needs.{needs}
 use Rattle.marks.proofs.mark.Statement.{statement}
 use Rattle.marks.proofs.mark.Tie as tie
 
 returns : tie.Need-returns
-returns c = mark-on (c .before .is-above .ensures) (c .if1 .taken)
+returns c = mark-on _ _ (c .if1 .taken)
 
 returns-2 : tie.Need-returns-2
-returns-2 c = mark-off (c .before .is-above .ensures) (c .if1 .left)
+returns-2 c = mark-off _ _ (c .if1 .left)
 
 pub mark-spec : {M : Type 1} → statement M
-mark-spec = tie.close (tie.spec (λ c κs. search needs) returns returns-2)
+mark-spec = tie.close (tie.spec returns returns-2)
