@@ -2,10 +2,10 @@
 -- Assumes nothing.
 use Prim.Native.Nat.{ℕ, _+_, _*_, _≤_, _<_}
 use mathlib.Core.Path.{_≡_, refl, sym, ap, _∙_}
-use mathlib.Core.Bool.{false, _||_, _&&_, not}
+use mathlib.Core.Bool.{_||_}
 use mathlib.Core.List.{List, [], _∷_, _++_}
 use native.Mathlib.Omega.{arith}
-use lib.Dec.{leb, ltb}
+use lib.Dec.{ltb}
 use lib.ListN.{length, getD, set, length-append}
 use lib.Seq.{sets, length-sets, set-append-seam, getD-append-seam}
 use borrow.Author.Tests.{eq-eqb, ltb-false}
@@ -14,8 +14,8 @@ use Rattle.rules.specs.Windows.{latest}
 use Rattle.rules.specs.Book.{Book, Pair, pairLimit, rightLimit}
 use Rattle.rules.specs.Calls.{Nominate}
 use Rattle.rules.specs.Said.{said}
-use Rattle.rules.specs.Nominations.{outOf, intoOf, isPairOf, pairTaken, emptyPair, withSide, withPair, marks}
-use Rattle.rules.specs.Refusals.{order, refuses, field, unknown, full, number}
+use Rattle.rules.specs.Nominations.{outOf, intoOf, isPairOf, emptyPair, withSide, withPair, marks}
+use Rattle.rules.specs.Refusals.{order, refuses, field, unknown, number}
 use Rattle.rules.specs.Effects.{isTimed, clockAfter, directionsAfter, profilesAfter, partiesAfter, offeredAfter, grantedAfter, rightsAfter, pairsAfter, matchedAfter, effect}
 use Rattle.rules.specs.Details.{detail}
 use Rattle.rules.specs.declared.Answer.the-variants.{Granted}
@@ -30,28 +30,27 @@ use Rattle.cells.proofs.Tables.{length-row}
 use Rattle.cells.proofs.Stores.{five-mw, clock-set}
 use Rattle.cells.proofs.Pairs.{with-pair, pair-more, side-replaced}
 use Rattle.cells.proofs.Views.{right-count, pair-count, pair-at, has-room}
+use Rattle.cells.specs.declared.Found.{Found}
 use Rattle.cells.specs.declared.Found.the-variants.{At, Nothing}
 use Rattle.pairs.specs.Search.{standingIn}
 use Rattle.pairs.proofs.Searches.{standing-at, standing-none}
 use Rattle.answers.specs.Promises.{Answers}
 use Rattle.answers.proofs.Laws.{granted}
 use Rattle.nominations.proofs.Verdicts.{known-nomination}
-use Rattle.nominations.specs.Work.{Opened, PairThere, Placed}
+use Rattle.nominations.specs.Work.{isMissing, Enters, Opened, PairThere, Placed}
 
 -- what a nomination that nothing refuses may rely on
-pub record Ready (b : List ℕ) (p o r side : ℕ) : Type 0 where
+pub record Ready (b : List ℕ) (r side : ℕ) : Type 0 where
   pub known : r < counted b RIGHTS rightLimit
   pub side-there : side ≤ 1
-  pub room : (leb pairLimit (length (bookOf b .pairs)) && not (pairTaken r (outOf p o side) (intoOf p o side) (bookOf b .pairs))) ≡ false
 
-pub ready : (b : List ℕ) (t p o r side : ℕ) (mw : List ℕ) → number (bookOf b) (Nominate t p o r side mw) ≡ 0 → Ready b p o r side
-unfolding order has refuses field unknown full
+pub ready : (b : List ℕ) (t p o r side : ℕ) (mw : List ℕ) → number (bookOf b) (Nominate t p o r side mw) ≡ 0 → Ready b r side
+unfolding order has refuses field unknown
 ready b t p o r side mw g =
     let f = is-granted (bookOf b) (Nominate t p o r side mw) (eq-eqb _ 0 g) in
     record {
       known = known-nomination b p o r (fails f 6 tt) .right;
       side-there = ltb-false 1 side (or-right (ltb latest t) (ltb 1 side) (or-left (ltb latest t || ltb 1 side) (anyAbove 9999 mw) (fails f 3 tt)));
-      room = fails f 13 tt;
     }
 
 -- ---- the pair
@@ -71,11 +70,11 @@ found-there b r o i k u e =
           ∙ rw p (ap (λ (x : Pair). set (bookOf b .pairs) k (withSide side mw x)) (pair-at b k (emptyPair r o i) (f .row))));
     }
 
-module _ (b : List ℕ) (r o i : ℕ) (e : standingIn b r o i ≡ Nothing) where
-  -- none was found, and there is room for one
-  pub room-left : (leb pairLimit (length (bookOf b .pairs)) && not (pairTaken r o i (bookOf b .pairs))) ≡ false → counted b PAIRS pairLimit < pairLimit
-  room-left h = rw (pair-count b) at (has-room (length (bookOf b .pairs)) pairLimit (not (pairTaken r o i (bookOf b .pairs))) h (rw (standing-none b r o i e .none)))
+-- none was found, and there is room for one
+pub room-left : {b : List ℕ} {r o i : ℕ} {f : Found} → Enters b r o i f → f ≡ Nothing → counted b PAIRS pairLimit < pairLimit
+room-left {b} {f = f} k e = rw (pair-count b) at (has-room (length (bookOf b .pairs)) pairLimit (isMissing f) (k .free) (rw e))
 
+module _ (b : List ℕ) (r o i : ℕ) (e : standingIn b r o i ≡ Nothing) where
   -- a new one
   module _ (n : ℕ) (b′ : List ℕ) (l : counted b PAIRS pairLimit < pairLimit) (w : Opened b r o i n b′) where
     here : n ≡ length (bookOf b .pairs)
@@ -118,11 +117,7 @@ side-written b b′ at k side mw size e f = f ∙ rw e (ap (λ (x : List ℕ). s
 
 -- ---- all stores together
 
-pub room-there : (b : List ℕ) (p o r side out into : ℕ) → Ready b p o r side → out ≡ outOf p o side → into ≡ intoOf p o side
-    → (leb pairLimit (length (bookOf b .pairs)) && not (pairTaken r out into (bookOf b .pairs))) ≡ false
-room-there b p o r side out into ok po pi = rw (po, pi) (ok .room)
-
-module _ (b : List ℕ) (t p o r side : ℕ) (mw : List ℕ) (ok : Ready b p o r side) (size : length mw ≡ 5) (out into k : ℕ) (b1 b2 b3 : List ℕ)
+module _ (b : List ℕ) (t p o r side : ℕ) (mw : List ℕ) (ok : Ready b r side) (size : length mw ≡ 5) (out into k : ℕ) (b1 b2 b3 : List ℕ)
     (po : out ≡ outOf p o side) (pi : into ≡ intoOf p o side) (s : PairThere b r out into k b1)
     (e2 : b2 ≡ sets b1 (PAIRS + 4 + k * 13 + 5 * side) mw) (e3 : b3 ≡ clocked t b2) where
   abbrev after : List Pair

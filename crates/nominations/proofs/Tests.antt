@@ -1,26 +1,24 @@
 -- What the tests of a nomination find in cells, as the rules find it in the book.
 -- Assumes nothing.
-use Prim.Native.Nat.{ℕ, _+_, _*_, _≤_, _<_}
+use Prim.Native.Nat.{ℕ, _+_, _*_, _<_}
 use mathlib.Core.Path.{_≡_, refl, sym, ap, _∙_}
 use mathlib.Core.Logic.{_≢_}
-use mathlib.Core.Bool.{Bool, true, false, cond, _||_, _&&_, not}
+use mathlib.Core.Bool.{Bool, true, false, cond, _||_, _&&_, not, and-true, and-false}
 use mathlib.Core.List.{List}
 use lib.Dec.{eqb, leb}
 use lib.ListN.{length, drop, List·getD-eq-default}
-use borrow.Author.Tests.{leb-true, le-leb, lt-leb, eq-eqb, ne-eqb}
+use borrow.Author.Tests.{leb-true, eq-eqb, ne-eqb}
 use Rattle.rules.specs.Basics.{bit, anyAbove}
 use Rattle.rules.specs.Sessions.{hoursIn}
 use Rattle.rules.specs.Windows.{nominationOutside}
 use Rattle.rules.specs.Book.{Direction, Right, direction, party, modelOf, directionLimit, pairLimit, partyLimit, rightLimit}
-use Rattle.rules.specs.Nominations.{pairTaken}
 use Rattle.rules.specs.Refusals.{directionUnknown, rightUnknown, hoursLacking}
 use Rattle.cells.specs.Layout.{DIRECTIONS, PARTIES, RIGHTS, PAIRS}
 use Rattle.cells.specs.View.{cell, counted, dayHoursIn, weekdayIn, directionAt, rightAt, bookOf}
 use Rattle.cells.proofs.Views.{access-at, direction-at, right-count, right-at, pair-count}
+use Rattle.cells.specs.declared.Found.{Found}
 use Rattle.cells.specs.declared.Found.the-variants.{At, Nothing}
-use Rattle.pairs.specs.Search.{standingIn}
-use Rattle.pairs.proofs.Searches.{standing-at, standing-none}
-use Rattle.nominations.specs.Work.{rightHolder, rightDirection, rightSession, operatorOf}
+use Rattle.nominations.specs.Work.{rightHolder, rightDirection, rightSession, operatorOf, isMissing}
 
 -- ---- the parties
 
@@ -90,15 +88,8 @@ module _ (b : List ℕ) (r : ℕ) (l : r < counted b RIGHTS rightLimit) where
 
 -- ---- room for a new pair
 
-module _ (b : List ℕ) (r o i n : ℕ) (e : n ≡ counted b PAIRS pairLimit) where
-  abbrev isFull : Bool
-  isFull = leb pairLimit (length (bookOf b .pairs)) && not (pairTaken r o i (bookOf b .pairs))
+pub full-at : (b : List ℕ) (n : ℕ) (f : Found) → n ≡ counted b PAIRS pairLimit → f ≡ Nothing → leb pairLimit n ≡ (leb pairLimit (length (bookOf b .pairs)) && isMissing f)
+full-at b n f e m = rw (pair-count b, e, m) (sym (and-true _))
 
-  pub not-full : n < pairLimit → false ≡ isFull
-  not-full l = rw (pair-count b, lt-leb pairLimit (counted b PAIRS pairLimit) (rw (← e) l))
-
-  pub full-there : (k : ℕ) → pairLimit ≤ n → standingIn b r o i ≡ At k → false ≡ isFull
-  full-there k l f = rw (pair-count b, le-leb pairLimit (counted b PAIRS pairLimit) (rw (← e) l), standing-at b r o i k f .there)
-
-  pub full-none : pairLimit ≤ n → standingIn b r o i ≡ Nothing → true ≡ isFull
-  full-none l f = rw (pair-count b, le-leb pairLimit (counted b PAIRS pairLimit) (rw (← e) l), standing-none b r o i f .none)
+pub there-is-one : (b : List ℕ) (k : ℕ) (f : Found) → f ≡ At k → false ≡ (leb pairLimit (length (bookOf b .pairs)) && isMissing f)
+there-is-one b k f m = rw m (sym (and-false (leb pairLimit (length (bookOf b .pairs)))))

@@ -1,7 +1,7 @@
 -- From the tests of a nomination to the conditions of the rules.
 -- Assumes nothing.
 use Prim.Native.Nat.{ℕ, _<_}
-use mathlib.Core.Path.{_≡_, refl}
+use mathlib.Core.Path.{_≡_, refl, sym}
 use mathlib.Core.Bool.{Bool, false, _||_, _&&_, not}
 use mathlib.Core.List.{List, [], _∷_}
 use lib.Dec.{leb}
@@ -14,8 +14,13 @@ use Rattle.rules.specs.Refusals.{order, firstOf, setupShut, taken, cycle, below
 use Rattle.rules.proofs.Bools.{or-left, or-right}
 use Rattle.cells.specs.Layout.{PARTIES, RIGHTS}
 use Rattle.cells.specs.View.{counted, bookOf}
+use Rattle.cells.specs.declared.Found.{Found}
+use Rattle.cells.specs.declared.Found.the-variants.{At, Nothing}
 use Rattle.cells.proofs.Views.{party-count, right-count}
+use Rattle.pairs.specs.Search.{standingIn}
+use Rattle.pairs.proofs.Searches.{standing-at, standing-none}
 use Rattle.answers.proofs.Laws.{Left}
+use Rattle.nominations.specs.Work.{isMissing, Enters}
 
 -- the numbers that can apply to a nomination
 pub nomination-left : (b : Book) (t p o r side : ℕ) (mw : List ℕ) → Left b (Nominate t p o r side mw) (3 ∷ 5 ∷ 6 ∷ 8 ∷ 9 ∷ 10 ∷ 11 ∷ 13 ∷ [])
@@ -35,8 +40,17 @@ known-nomination b p o r e =
       right = rw (right-count b) at (leb-false (length (bookOf b .rights)) r (or-right (partyUnknown (bookOf b) p || partyUnknown (bookOf b) o) _ e));
     }
 
--- the pair of the test is that of the nomination
-pub full-is : (b : List ℕ) (p o r side : ℕ) {out into : ℕ} {x : Bool} → out ≡ outOf p o side → into ≡ intoOf p o side
-    → (leb pairLimit (length (bookOf b .pairs)) && not (pairTaken r out into (bookOf b .pairs))) ≡ x
-    → (leb pairLimit (length (bookOf b .pairs)) && not (pairTaken r (outOf p o side) (intoOf p o side) (bookOf b .pairs))) ≡ x
-full-is b p o r side e f h = rw (e, f) at h
+-- ---- 13
+
+missing-is : (b : List ℕ) (r o i : ℕ) (f : Found) → f ≡ standingIn b r o i → isMissing f ≡ not (pairTaken r o i (bookOf b .pairs))
+missing-is b r o i (At k) e = rw (standing-at b r o i k (sym e) .there)
+missing-is b r o i Nothing e = rw (standing-none b r o i (sym e) .none)
+
+-- the test of what was found is that of the rules
+module _ (b : List ℕ) (p o r side : ℕ) {out into : ℕ} {f : Found} (eo : out ≡ outOf p o side) (ei : into ≡ intoOf p o side) (e : f ≡ standingIn b r out into) where
+  pub full-is : {x : Bool} → (leb pairLimit (length (bookOf b .pairs)) && isMissing f) ≡ x
+      → (leb pairLimit (length (bookOf b .pairs)) && not (pairTaken r (outOf p o side) (intoOf p o side) (bookOf b .pairs))) ≡ x
+  full-is h = rw (← eo, ← ei, ← missing-is b r out into f e) h
+
+  pub enters : (leb pairLimit (length (bookOf b .pairs)) && isMissing f) ≡ false → Enters b r (outOf p o side) (intoOf p o side) f
+  enters h = record { found-is = rw (eo, ei) at e; free = h }

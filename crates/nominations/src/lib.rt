@@ -1,6 +1,6 @@
 // Nominations. A nomination is checked whole before anything is stored.
 ghost use mathlib.Core.Path.{_≡_};
-ghost use mathlib.Core.Bool.{true, false, _||_, _&&_, not};
+ghost use mathlib.Core.Bool.{_||_, _&&_, not};
 ghost use Prim.Native.Nat.{_+_, _*_, _<_, _≤_};
 ghost use lib.Dec.{leb, ltb, eqb};
 ghost use lib.ListN.{length};
@@ -9,16 +9,21 @@ ghost use Rattle.rules.specs.Basics.{bit, anyAbove};
 ghost use Rattle.rules.specs.Windows.{latest, nominationOutside};
 ghost use Rattle.rules.specs.Book.{party, modelOf, pairLimit, partyLimit, rightLimit};
 ghost use Rattle.rules.specs.Calls.{Nominate};
-ghost use Rattle.rules.specs.Nominations.{outOf, intoOf, pairTaken};
-ghost use Rattle.rules.specs.Refusals.{partyUnknown, rightUnknown, hoursLacking, number};
+ghost use Rattle.rules.specs.Nominations.{outOf, intoOf};
+ghost use Rattle.rules.specs.Refusals.{partyUnknown, rightUnknown, hoursLacking};
 ghost use Rattle.cells.specs.Layout.{PARTIES, RIGHTS, PAIRS};
 ghost use Rattle.cells.specs.View.{bookOf, counted};
-ghost use Rattle.answers.specs.Promises.{Judged, Answers};
-ghost use Rattle.nominations.specs.Work.{rightHolder, rightDirection, rightSession, operatorOf, Opened, PairThere, Placed};
-use answers::Verdict;
+ghost use Rattle.answers.specs.Promises.{Answers};
+ghost use Rattle.nominations.specs.Work.{rightHolder, rightDirection, rightSession, operatorOf, isMissing, Enters, Cleared, JudgedNomination, Opened, PairThere, Placed};
 use cells::Book;
 use cells::Found;
 use rules::Answer;
+
+// What the tests of a nomination find: nothing against it, with what the search for its pair found, or the refusal.
+enum NominationVerdict {
+    Clear(Found),
+    No(Answer),
+}
 
 // ---- the parties of a nomination
 
@@ -144,14 +149,11 @@ fn not_owner(book: &Book, sender: u8, other: u8, right: u16) -> bool
 }
 
 // A new pair is needed, and the table is full.
-fn pairs_full(book: &Book, right: u32, out: u32, into: u32) -> bool
-    ensures { λ r. ⌜ r ≡ (leb pairLimit (length (bookOf (now (book .entry)) .pairs)) && not (pairTaken right out into (bookOf (now (book .entry)) .pairs))) ⌝ }
+fn pairs_full(book: &Book, found: Found) -> bool
+    ensures { λ r. ⌜ r ≡ (leb pairLimit (length (bookOf (now (book .entry)) .pairs)) && isMissing found) ⌝ }
 {
-    if cells::count_in(book, cells::PAIRS, cells::PAIR_LIMIT) < cells::PAIR_LIMIT {
-        return false;
-    }
-    let Found::At(_) = pairs::standing_pair(book, right, out, into) else {
-        return true;
+    let Found::At(_) = found else {
+        return cells::PAIR_LIMIT <= cells::count_in(book, cells::PAIRS, cells::PAIR_LIMIT);
     };
     false
 }
@@ -166,36 +168,37 @@ fn nomination_verdict(
     right: u16,
     side: u8,
     mw: [u16; 5],
-) -> Verdict
-    ensures { λ r. ⌜ Judged (bookOf (now (book .entry))) (Nominate time sender other right side mw) r ⌝ }
+) -> NominationVerdict
+    ensures { λ r. ⌜ JudgedNomination (now (book .entry)) time sender other right side mw r ⌝ }
 {
     if nomination_field(time, side, mw) {
-        return Verdict::No(Answer::Field);
+        return NominationVerdict::No(Answer::Field);
     }
     if answers::is_early(book, time) {
-        return Verdict::No(Answer::Clock);
+        return NominationVerdict::No(Answer::Clock);
     }
     if nomination_unknown(book, sender, other, right) {
-        return Verdict::No(Answer::Unknown);
+        return NominationVerdict::No(Answer::Unknown);
     }
     if outside(book, right, time) {
-        return Verdict::No(Answer::Gate);
+        return NominationVerdict::No(Answer::Gate);
     }
     if lacking_hours(book, right, mw) {
-        return Verdict::No(Answer::Hours);
+        return NominationVerdict::No(Answer::Hours);
     }
     if no_access(book, sender, right, side) {
-        return Verdict::No(Answer::Access);
+        return NominationVerdict::No(Answer::Access);
     }
     if not_owner(book, sender, other, right) {
-        return Verdict::No(Answer::Owner);
+        return NominationVerdict::No(Answer::Owner);
     }
     let out = out_party(sender, other, side);
     let into = in_party(sender, other, side);
-    if pairs_full(book, right as u32, out, into) {
-        return Verdict::No(Answer::Full);
+    let standing = pairs::standing_pair(book, right as u32, out, into);
+    if pairs_full(book, standing) {
+        return NominationVerdict::No(Answer::Full);
     }
-    Verdict::Clear
+    NominationVerdict::Clear(standing)
 }
 
 // ---- a granted nomination
@@ -212,13 +215,13 @@ fn open_pair(book: &mut Book, right: u32, out: u32, into: u32) -> u32
     count
 }
 
-// The number of the pair of a right and two parties, which is opened where there is none.
-fn take_pair(book: &mut Book, right: u32, out: u32, into: u32) -> u32
-    requires { ⌜ (leb pairLimit (length (bookOf (now book) .pairs)) && not (pairTaken right out into (bookOf (now book) .pairs))) ≡ false ⌝ }
+// The number of the pair that the verdict found, or of a new one.
+fn take_pair(book: &mut Book, right: u32, out: u32, into: u32, found: Found) -> u32
+    requires { ⌜ Enters (now book) right out into found ⌝ }
     ensures { λ r. ⌜ PairThere (now (book .entry)) right out into r (now (book .exit)) ⌝ }
 {
     let cells = cells::cells_in(book);
-    let Found::At(pair) = pairs::standing_pair(book, right, out, into) else {
+    let Found::At(pair) = found else {
         return open_pair(book, right, out, into);
     };
     pair
@@ -249,13 +252,14 @@ fn place_nomination(
     right: u16,
     side: u8,
     mw: [u16; 5],
+    found: Found,
 ) -> u32
-    requires { ⌜ number (bookOf (now book)) (Nominate time sender other right side mw) ≡ 0 ⌝ }
+    requires { ⌜ Cleared (now book) time sender other right side mw found ⌝ }
     ensures { λ r. ⌜ Placed (now (book .entry)) time sender other right side mw r (now (book .exit)) ⌝ }
 {
     let out = out_party(sender, other, side);
     let into = in_party(sender, other, side);
-    let pair = take_pair(book, right as u32, out, into);
+    let pair = take_pair(book, right as u32, out, into, found);
     write_side(book, pair, side, mw);
     cells::set_clock(book, time);
     marks::marks(book, right, side)
@@ -274,9 +278,9 @@ pub fn nominate(
 {
     let verdict = nomination_verdict(book, time, sender, other, right, side, mw);
     match verdict {
-        Verdict::No(answer) => answer,
-        Verdict::Clear => {
-            Answer::Granted(place_nomination(book, time, sender, other, right, side, mw))
+        NominationVerdict::No(answer) => answer,
+        NominationVerdict::Clear(found) => {
+            Answer::Granted(place_nomination(book, time, sender, other, right, side, mw, found))
         }
     }
 }

@@ -1,35 +1,26 @@
 -- `nominations::take_pair` meets its contract.
 -- Assumes nothing.
-use borrow.Author.Needs.{needs}
 use mathlib.Core.Path.{sym, _∙_}
 use Rattle.nominations.proofs.Placing.{room-left, opened-there, found-there}
+use borrow.Author.Needs.{needs}
 use Rattle.nominations.proofs.take_pair.Statement.{statement}
 use Rattle.nominations.proofs.take_pair.Tie as tie
 
 open-pair-requires : tie.Need-open-pair-requires
-open-pair-requires c κs =
-    let f = c .before .before .before in
-    room-left _ _ _ _ (sym (f .standing-pair .ensures) ∙ c .before .enum-told .given .1) (f .before .before .before .before .pre)
+open-pair-requires c κs = room-left (c .before .before .before .before .before .pre) (c .before .enum-told .given .1)
 
 returns : tie.Need-returns
 returns c =
-    let f = c .before .before .before .before in
-    let e = sym (f .standing-pair .ensures) ∙ c .before .before .enum-told .given .1 in
-    opened-there _ _ _ _ e _ _ (room-left _ _ _ _ e (f .before .before .before .before .pre)) (c .open-pair .ensures)
+    let k = c .before .before .before .before .before .before .pre in
+    let e = c .before .before .enum-told .given .1 in
+    opened-there _ _ _ _ (sym (k .found-is) ∙ e) _ _ (room-left k e) (c .open-pair .ensures)
 
 returns-2 : tie.Need-returns-2
 returns-2 c =
-    let f = c .before .before .before in
-    found-there _ _ _ _ _ (f .before .before .cells-in .ensures .count) (sym (f .standing-pair .ensures) ∙ c .before .pair .given .1)
+    let s = c .before .before .before in
+    found-there _ _ _ _ _ (s .cells-in .ensures .count) (sym (s .before .before .pre .found-is) ∙ c .before .found .given .1)
 
 pub take-pair-spec : {M : Type 1} → statement M
 take-pair-spec =
     tie.close
-    (tie.spec
-    (λ c κs. search needs)
-    (λ c κs. search needs)
-    (λ c. search needs)
-    (λ c. search needs)
-    open-pair-requires
-    returns
-    returns-2)
+    (tie.spec (λ c κs. search needs) (λ c. search needs) (λ c. search needs) open-pair-requires returns returns-2)
