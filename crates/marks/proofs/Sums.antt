@@ -10,7 +10,7 @@ use native.Mathlib.Nat.{add-zero, zero-add}
 use lib.Dec.{ltb, eqb}
 use lib.ListN.{getD}
 use borrow.Author.Tests.{eqb-true, eqb-false, eq-eqb, ne-eqb, lt-ltb, le-ltb}
-use Rattle.rules.specs.Basics.{mapOf}
+use Rattle.rules.specs.Basics.{noMw, mapOf}
 use Rattle.rules.specs.Book.{Right, right, pairLimit, rightLimit}
 use Rattle.rules.specs.Nominations.{sideOf, sideTotal, aboveRight, marks}
 use Rattle.cells.specs.Layout.{RIGHTS, PAIRS}
@@ -46,6 +46,10 @@ in-five P p q r s t (suc (suc (suc zero))) l = s
 in-five P p q r s t (suc (suc (suc (suc zero)))) l = t
 in-five P p q r s t (suc (suc (suc (suc (suc n))))) l = absurd (omega arith)
 
+-- the MW of pair k in an hour, a number of 32 bits
+abbrev Share : List ℕ → ℕ → ℕ → ℕ → ℕ → Type 0
+Share b k side hour x = (x ≡ getD (sideOf side (pairAt b k)) hour 0) × (x ≤ 4294967295)
+
 module _ (b : List ℕ) (k r side : ℕ) (totals : List ℕ) (u : Bounded k totals) where
   -- of another right
   pub none-added : cell b (PAIRS + 1 + k * 13) ≢ r → Added b k r side totals totals
@@ -56,18 +60,14 @@ module _ (b : List ℕ) (k r side : ℕ) (totals : List ℕ) (u : Bounded k tota
         bounded = λ hour l. omega (arith, u hour l);
       }
 
+  -- of the right
   module _ (e : cell b (PAIRS + 1 + k * 13) ≡ r) where
-    one-added : (hour x : ℕ) → hour < 5 → (x ≡ getD (sideOf side (pairAt b k)) hour 0) × (x ≤ 4294967295)
+    one-added : (hour x : ℕ) → hour < 5 → Share b k side hour x
         → (getD totals hour 0 + x ≡ getD totals hour 0 + shareOf r side hour (pairAt b k)) × (getD totals hour 0 + x ≤ (k + 1) * 4294967295)
     unfolding shareOf pairAt
     one-added hour x l p = (rw (eq-eqb (cell b (PAIRS + 1 + k * 13)) r e, p .0) refl, omega (arith, u hour l))
 
-    pub five-added : (f g h i j : ℕ)
-        → (f ≡ getD (sideOf side (pairAt b k)) 0 0) × (f ≤ 4294967295)
-        → (g ≡ getD (sideOf side (pairAt b k)) 1 0) × (g ≤ 4294967295)
-        → (h ≡ getD (sideOf side (pairAt b k)) 2 0) × (h ≤ 4294967295)
-        → (i ≡ getD (sideOf side (pairAt b k)) 3 0) × (i ≤ 4294967295)
-        → (j ≡ getD (sideOf side (pairAt b k)) 4 0) × (j ≤ 4294967295)
+    pub five-added : (f g h i j : ℕ) → Share b k side 0 f → Share b k side 1 g → Share b k side 2 h → Share b k side 3 i → Share b k side 4 j
         → Added b k r side totals ((getD totals 0 0 + f) ∷ (getD totals 1 0 + g) ∷ (getD totals 2 0 + h) ∷ (getD totals 3 0 + i) ∷ (getD totals 4 0 + j) ∷ [])
     five-added f g h i j p q s t v =
         let sums : List ℕ = (getD totals 0 0 + f) ∷ (getD totals 1 0 + g) ∷ (getD totals 2 0 + h) ∷ (getD totals 3 0 + i) ∷ (getD totals 4 0 + j) ∷ [] in
@@ -77,14 +77,8 @@ module _ (b : List ℕ) (k r side : ℕ) (totals : List ℕ) (u : Bounded k tota
 
 -- ---- the total
 
-abbrev none : List ℕ
-none = 0 ∷ 0 ∷ 0 ∷ 0 ∷ 0 ∷ []
-
-pub zeros : (hour : ℕ) → hour < 5 → getD none hour 0 ≡ 0
-zeros = in-five (λ hour. getD none hour 0 ≡ 0) refl refl refl refl refl
-
-pub zeros-bounded : (i : ℕ) → Bounded i none
-zeros-bounded i hour l = omega (arith, zeros hour l)
+pub zeros : (hour : ℕ) → hour < 5 → getD noMw hour 0 ≡ 0
+zeros = in-five (λ hour. getD noMw hour 0 ≡ 0) refl refl refl refl refl
 
 total-of : (b : List ℕ) (r side hour n k : ℕ) → each (addPair b r side hour) n k 0 ≡ sideTotal r side hour (rows (pairAt b) n k)
 unfolding each rows addPair shareOf sideTotal
@@ -129,25 +123,28 @@ module _ (held total : ℕ) where
   pub mark-off : total ≤ held → (0 ≡ cond {A = ℕ} (ltb held total) 1 0) × (0 ≤ 1)
   mark-off l = rw (le-ltb held total l) (refl, omega arith)
 
+-- the bit of an hour as the code makes it, from the MW at a place
+abbrev Bit : List ℕ → List ℕ → ℕ → ℕ → ℕ → Type 0
+Bit b totals at hour m = m ≡ cond (ltb (cell b at) (getD totals hour 0)) 1 0
+
 -- five bits, as the code adds them up
 module _ (b : List ℕ) (r side : ℕ) (l : r < counted b RIGHTS rightLimit) (totals : List ℕ) (w : Summed r side (bookOf b .pairs) totals) where
+  abbrev at : ℕ
+  at = RIGHTS + 4 + r * 8
+
   abbrev bitAt : ℕ → ℕ
   bitAt hour = cond (aboveRight (bookOf b .rights) (bookOf b .pairs) r side hour) 1 0
 
-  mark-is : (hour m : ℕ) → hour < 5 → m ≡ cond (ltb (cell b (RIGHTS + 4 + r * 8 + hour)) (getD totals hour 0)) 1 0 → m ≡ bitAt hour
-  mark-is hour m h e = e ∙ rw (above-is b r side hour _ l h (w .totals-are hour h))
+  bit-is : (hour m : ℕ) → hour < 5 → Bit b totals (at + hour) hour m → m ≡ bitAt hour
+  bit-is hour m h e = e ∙ rw (above-is b r side hour _ l h (w .totals-are hour h))
 
-  pub marks-are : (f g h i j : ℕ) → f ≡ cond (ltb (cell b (RIGHTS + 4 + r * 8)) (getD totals 0 0)) 1 0
-      → g ≡ cond (ltb (cell b (RIGHTS + 4 + r * 8 + 1)) (getD totals 1 0)) 1 0
-      → h ≡ cond (ltb (cell b (RIGHTS + 4 + r * 8 + 2)) (getD totals 2 0)) 1 0
-      → i ≡ cond (ltb (cell b (RIGHTS + 4 + r * 8 + 3)) (getD totals 3 0)) 1 0
-      → j ≡ cond (ltb (cell b (RIGHTS + 4 + r * 8 + 4)) (getD totals 4 0)) 1 0
+  pub marks-are : (f g h i j : ℕ) → Bit b totals at 0 f → Bit b totals (at + 1) 1 g → Bit b totals (at + 2) 2 h → Bit b totals (at + 3) 3 i → Bit b totals (at + 4) 4 j
       → f + 2 * (g + 2 * (h + 2 * (i + 2 * j))) ≡ marks (bookOf b .rights) (bookOf b .pairs) r side
   unfolding marks mapOf
   marks-are f g h i j p q s t u =
-      let first : f ≡ bitAt 0 = mark-is 0 f (omega arith) (rw (add-zero (RIGHTS + 4 + r * 8)) p) in
-      let second : g ≡ bitAt 1 = mark-is 1 g (omega arith) q in
-      let third : h ≡ bitAt 2 = mark-is 2 h (omega arith) s in
-      let fourth : i ≡ bitAt 3 = mark-is 3 i (omega arith) t in
-      let fifth : j ≡ bitAt 4 = mark-is 4 j (omega arith) u in
+      let first : f ≡ bitAt 0 = bit-is 0 f (omega arith) (rw (add-zero at) p) in
+      let second : g ≡ bitAt 1 = bit-is 1 g (omega arith) q in
+      let third : h ≡ bitAt 2 = bit-is 2 h (omega arith) s in
+      let fourth : i ≡ bitAt 3 = bit-is 3 i (omega arith) t in
+      let fifth : j ≡ bitAt 4 = bit-is 4 j (omega arith) u in
       omega arith

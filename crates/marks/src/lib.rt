@@ -20,7 +20,7 @@ fn side_mw(book: &Book, i: u32, side: u8, hour: u8) -> u32
 }
 
 // The totals of the pairs before number i, with those of pair i added where it is of the right.
-fn with_side(book: &Book, i: u32, right: u32, side: u8, totals: [u64; 5]) -> [u64; 5]
+fn with_share(book: &Book, i: u32, right: u32, side: u8, totals: [u64; 5]) -> [u64; 5]
     requires { ⌜ (i < pairLimit) × ((side ≤ 1) × Bounded i totals) ⌝ }
     ensures { λ r. ⌜ Added (now (book .entry)) i right side totals r ⌝ }
 {
@@ -44,7 +44,7 @@ fn side_totals(book: &Book, right: u32, side: u8) -> [u64; 5]
     let count = cells::count_in(book, cells::PAIRS, cells::PAIR_LIMIT);
     let mut totals = [0u64; 5];
     for i in 0..count {
-        let next = with_side(book, i, right, side, totals);
+        let next = with_share(book, i, right, side, totals);
         totals = next;
     }
     totals

@@ -10,7 +10,7 @@ use Rattle.rules.specs.Nominations.{sideTotal}
 use Rattle.cells.specs.Loops.{each}
 use Rattle.cells.specs.View.{bookOf}
 use Rattle.marks.specs.Totals.{addPair, Bounded}
-use Rattle.marks.proofs.Sums.{zeros, zeros-bounded, sum-start, sum-next, sum-done}
+use Rattle.marks.proofs.Sums.{zeros, sum-start, sum-next, sum-done}
 use Rattle.marks.proofs.side_totals.Statement.{statement}
 use Rattle.marks.proofs.side_totals.Tie as tie
 
@@ -22,11 +22,11 @@ abbrev μ-loop : tie.MeasureT-loop
 μ-loop book right side count totals₀ i₀ totals i = count - i
 
 loop-holds : tie.Need-loop-holds Inv-loop μ-loop
-loop-holds c = (omega (arith, c .count-in .ensures), (zeros-bounded 0, λ hour l. sum-start _ _ _ hour _ (c .count-in .ensures) _ (zeros hour l)))
+loop-holds c = (omega (arith, c .count-in .ensures), (λ hour l. omega (arith, zeros hour l), λ hour l. sum-start _ _ _ hour _ (c .count-in .ensures) _ (zeros hour l)))
 
 loop-again : tie.Need-loop-again Inv-loop μ-loop
 loop-again c =
-    let a = c .with-side .ensures in
+    let a = c .with-share .ensures in
     (search needs, (a .bounded, λ hour l. sum-next _ _ _ hour _ _ _ _ (c .before .before .loop .inv .1 .1 hour l) _ (c .before .loop-test .taken) (a .sums-are hour l)))
 
 returns : tie.Need-returns Inv-loop μ-loop

@@ -1,10 +1,10 @@
--- `marks::with_side` meets its contract.
+-- `marks::with_share` meets its contract.
 -- Assumes nothing.
 use native.Mathlib.Omega.{arith}
 use Rattle.marks.proofs.Sums.{none-added, five-added}
 use borrow.Author.Needs.{needs}
-use Rattle.marks.proofs.with_side.Statement.{statement}
-use Rattle.marks.proofs.with_side.Tie as tie
+use Rattle.marks.proofs.with_share.Statement.{statement}
+use Rattle.marks.proofs.with_share.Tie as tie
 
 returns : tie.Need-returns
 returns c = none-added _ _ _ _ _ (c .before .before .pre .1 .1) (c .if1 .taken)
@@ -29,8 +29,8 @@ returns-2 c =
     let s = c .before .before .before .before .before in
     five-added _ _ _ _ _ (s .before .before .pre .1 .1) (s .if1 .left) _ _ _ _ _ (c .before .before .before .before .side-mw .ensures, search needs) (c .before .before .before .side-mw2 .ensures, search needs) (c .before .before .side-mw3 .ensures, search needs) (c .before .side-mw4 .ensures, search needs) (c .side-mw5 .ensures, search needs)
 
-pub with-side-spec : {M : Type 1} → statement M
-with-side-spec =
+pub with-share-spec : {M : Type 1} → statement M
+with-share-spec =
     tie.close
     (tie.spec
     (λ c. search needs)
