@@ -9,7 +9,7 @@ use lib.ListN.{length}
 use borrow.Author.Tests.{leb-false}
 use Rattle.rules.specs.Book.{Book, pairLimit, partyLimit, rightLimit}
 use Rattle.rules.specs.Calls.{Nominate}
-use Rattle.rules.specs.Nominations.{outOf, intoOf, pairTaken}
+use Rattle.rules.specs.Nominations.{pairTaken}
 use Rattle.rules.specs.Refusals.{order, firstOf, setupShut, taken, cycle, below, shortageOf, refuses, partyUnknown, rightUnknown}
 use Rattle.rules.proofs.Bools.{or-left, or-right}
 use Rattle.cells.specs.Layout.{PARTIES, RIGHTS}
@@ -20,7 +20,7 @@ use Rattle.cells.proofs.Views.{party-count, right-count}
 use Rattle.pairs.specs.Search.{standingIn}
 use Rattle.pairs.proofs.Searches.{standing-at, standing-none}
 use Rattle.answers.proofs.Laws.{Left}
-use Rattle.nominations.specs.Work.{isMissing, Enters}
+use Rattle.nominations.specs.Work.{isMissing}
 
 -- the numbers that can apply to a nomination
 pub nomination-left : (b : Book) (t p o r side : ℕ) (mw : List ℕ) → Left b (Nominate t p o r side mw) (3 ∷ 5 ∷ 6 ∷ 8 ∷ 9 ∷ 10 ∷ 11 ∷ 13 ∷ [])
@@ -47,10 +47,6 @@ missing-is b r o i (At k) e = rw (standing-at b r o i k (sym e) .there)
 missing-is b r o i Nothing e = rw (standing-none b r o i (sym e) .none)
 
 -- the test of what was found is that of the rules
-module _ (b : List ℕ) (p o r side : ℕ) {out into : ℕ} {f : Found} (eo : out ≡ outOf p o side) (ei : into ≡ intoOf p o side) (e : f ≡ standingIn b r out into) where
-  pub full-is : {x : Bool} → (leb pairLimit (length (bookOf b .pairs)) && isMissing f) ≡ x
-      → (leb pairLimit (length (bookOf b .pairs)) && not (pairTaken r (outOf p o side) (intoOf p o side) (bookOf b .pairs))) ≡ x
-  full-is h = rw (← eo, ← ei, ← missing-is b r out into f e) h
-
-  pub enters : (leb pairLimit (length (bookOf b .pairs)) && isMissing f) ≡ false → Enters b r (outOf p o side) (intoOf p o side) f
-  enters h = record { found-is = rw (eo, ei) at e; free = h }
+pub full-is : (b : List ℕ) (r o i : ℕ) {f : Found} {x : Bool} → f ≡ standingIn b r o i → (leb pairLimit (length (bookOf b .pairs)) && isMissing f) ≡ x
+    → (leb pairLimit (length (bookOf b .pairs)) && not (pairTaken r o i (bookOf b .pairs))) ≡ x
+full-is b r o i {f} e h = rw (← missing-is b r o i f e) h

@@ -13,6 +13,7 @@ ghost use Rattle.rules.specs.Nominations.{outOf, intoOf};
 ghost use Rattle.rules.specs.Refusals.{partyUnknown, rightUnknown, hoursLacking};
 ghost use Rattle.cells.specs.Layout.{PARTIES, RIGHTS, PAIRS};
 ghost use Rattle.cells.specs.View.{bookOf, counted};
+ghost use Rattle.pairs.specs.Search.{standingIn};
 ghost use Rattle.answers.specs.Promises.{Answers};
 ghost use Rattle.nominations.specs.Work.{rightHolder, rightDirection, rightSession, operatorOf, isMissing, Enters, Cleared, JudgedNomination, Opened, PairThere, Placed};
 use cells::Book;
@@ -148,6 +149,15 @@ fn not_owner(book: &Book, sender: u8, other: u8, right: u16) -> bool
     holder != other
 }
 
+// The search for the pair of a nomination.
+fn nominated_pair(book: &Book, sender: u8, other: u8, right: u16, side: u8) -> Found
+    ensures { λ r. ⌜ r ≡ standingIn (now (book .entry)) right (outOf sender other side) (intoOf sender other side) ⌝ }
+{
+    let out = out_party(sender, other, side);
+    let into = in_party(sender, other, side);
+    pairs::standing_pair(book, right as u32, out, into)
+}
+
 // A new pair is needed, and the table is full.
 fn pairs_full(book: &Book, found: Found) -> bool
     ensures { λ r. ⌜ r ≡ (leb pairLimit (length (bookOf (now (book .entry)) .pairs)) && isMissing found) ⌝ }
@@ -192,9 +202,7 @@ fn nomination_verdict(
     if not_owner(book, sender, other, right) {
         return NominationVerdict::No(Answer::Owner);
     }
-    let out = out_party(sender, other, side);
-    let into = in_party(sender, other, side);
-    let standing = pairs::standing_pair(book, right as u32, out, into);
+    let standing = nominated_pair(book, sender, other, right, side);
     if pairs_full(book, standing) {
         return NominationVerdict::No(Answer::Full);
     }

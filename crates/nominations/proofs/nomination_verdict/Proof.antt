@@ -10,7 +10,7 @@ use Rattle.rules.specs.Details.{refusal}
 use Rattle.rules.specs.declared.Answer.the-variants.{Field, Clock, Unknown, Gate, Hours, Access, Owner, Full}
 use Rattle.cells.specs.View.{bookOf}
 use Rattle.answers.proofs.Laws.{Left, pass, refuse, none-left, told}
-use Rattle.nominations.proofs.Verdicts.{nomination-left, KnownNomination, known-nomination, full-is, enters}
+use Rattle.nominations.proofs.Verdicts.{nomination-left, KnownNomination, known-nomination, full-is}
 use borrow.Author.Needs.{needs}
 use Rattle.nominations.proofs.nomination_verdict.Statement.{statement}
 use Rattle.nominations.proofs.nomination_verdict.Tie as tie
@@ -97,21 +97,17 @@ returns-7 c = refuse Owner (after6 (c .before .before)) (told (c .before .not-ow
 returns-8 : tie.Need-returns-8
 unfolding refuses full refusal
 returns-8 c =
-    let p = c .before in
-    let s = p .before in
-    let a = s .before .before .before .before .before .before .before .before .before .before .before .before .before .before .before .before .before .args in
-    refuse Full (after7 (s .before .before .before)) (full-is (now (a .book)) (a .sender) (a .other) (a .right) (a .side) (s .before .before .out-party .ensures) (s .before .in-party .ensures) (s .standing-pair .ensures) (told (p .pairs-full .ensures) (c .if8 .taken))) refl refl
+    let s = c .before .before in
+    refuse Full (after7 (s .before)) (full-is _ _ _ _ (s .nominated-pair .ensures) (told (c .before .pairs-full .ensures) (c .if8 .taken))) refl refl
 
 returns-9 : tie.Need-returns-9
 unfolding refuses full
 returns-9 c =
-    let p = c .before in
-    let s = p .before in
-    let a = s .before .before .before .before .before .before .before .before .before .before .before .before .before .before .before .before .before .args in
-    let h = told (p .pairs-full .ensures) (c .if8 .left) in
+    let s = c .before .before in
+    let h = told (c .before .pairs-full .ensures) (c .if8 .left) in
     record {
-      clear = none-left (pass (after7 (s .before .before .before)) (full-is (now (a .book)) (a .sender) (a .other) (a .right) (a .side) (s .before .before .out-party .ensures) (s .before .in-party .ensures) (s .standing-pair .ensures) h));
-      enters = enters (now (a .book)) (a .sender) (a .other) (a .right) (a .side) (s .before .before .out-party .ensures) (s .before .in-party .ensures) (s .standing-pair .ensures) h;
+      clear = none-left (pass (after7 (s .before)) (full-is _ _ _ _ (s .nominated-pair .ensures) h));
+      enters = record { found-is = s .nominated-pair .ensures; free = h };
     }
 
 pub nomination-verdict-spec : {M : Type 1} → statement M
@@ -132,8 +128,6 @@ nomination-verdict-spec =
     returns-6
     not-owner-requires
     returns-7
-    (λ c κs. search needs)
-    (λ c κs. search needs)
     (λ c κs. search needs)
     (λ c κs. search needs)
     returns-8
