@@ -229,10 +229,10 @@ fn take_pair(book: &mut Book, right: u32, out: u32, into: u32, found: Found) -> 
     ensures { λ r. ⌜ PairThere (now (book .entry)) right out into r (now (book .exit)) ⌝ }
 {
     let cells = cells::cells_in(book);
-    let Found::At(pair) = found else {
+    let Found::At(number) = found else {
         return open_pair(book, right, out, into);
     };
-    pair
+    number
 }
 
 // The five MW of one side of a pair.
