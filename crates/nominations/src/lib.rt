@@ -216,7 +216,7 @@ fn open_pair(book: &mut Book, right: u32, out: u32, into: u32) -> u32
     requires { ⌜ counted (now book) PAIRS pairLimit < pairLimit ⌝ }
     ensures { λ r. ⌜ Opened (now (book .entry)) right out into r (now (book .exit)) ⌝ }
 {
-    let cells = cells::cells_in(book);
+    cells::cells_in(book);
     let count = cells::count_in(book, cells::PAIRS, cells::PAIR_LIMIT);
     let row = [right, out, into, 0, 0, 0, 0, 0, 0, 0, 0, 0, 0];
     cells::add_row(book, cells::PAIRS, count, &row);
@@ -228,7 +228,7 @@ fn take_pair(book: &mut Book, right: u32, out: u32, into: u32, found: Found) -> 
     requires { ⌜ Enters (now book) right out into found ⌝ }
     ensures { λ r. ⌜ PairThere (now (book .entry)) right out into r (now (book .exit)) ⌝ }
 {
-    let cells = cells::cells_in(book);
+    cells::cells_in(book);
     let Found::At(number) = found else {
         return open_pair(book, right, out, into);
     };
