@@ -5,7 +5,7 @@ use mathlib.Core.Path.{_≡_}
 use mathlib.Core.Bool.{cond}
 use mathlib.Core.List.{List, [], _∷_, _++_}
 use lib.Dec.{ltb}
-use lib.ListN.{length, take}
+use lib.ListN.{length}
 use lib.Seq.{sets}
 use Rattle.rules.specs.Calls.{Reply}
 
@@ -30,13 +30,9 @@ lineOf k a =
     (decimal k ++ (space ∷ []))
     ++ ((decimal (a .number) ++ (space ∷ [])) ++ ((decimal (a .first) ++ (space ∷ [])) ++ (decimal (a .second) ++ (newline ∷ []))))
 
--- a text of at most 21 bytes is stored at a position; r is the position past it
-pub record Put (before : List ℕ) (at : ℕ) (text : List ℕ) (r : ℕ) (after : List ℕ) : Type 0 where
+-- a text of at most some bytes is stored at a position; r is the position past it
+pub record Put (most : ℕ) (before : List ℕ) (at : ℕ) (text : List ℕ) (r : ℕ) (after : List ℕ) : Type 0 where
   pub stored : after ≡ sets before at text
   pub end : r ≡ at + length text
-  pub few : length text ≤ 21
-
--- the first r bytes of a buffer are the text; the second part follows, and lends `[..r]` without more
-pub record Holds (buffer text : List ℕ) (r : ℕ) : Type 0 where
-  pub text-is : take r buffer ≡ text
-  pub counts : (r ≤ length buffer) × (r ≡ length (take r buffer))
+  pub few : length text ≤ most
+  pub size : length after ≡ length before

@@ -5,11 +5,8 @@ ghost use Prim.Native.Nat.{_+_, _≤_};
 ghost use lib.ListN.{length};
 ghost use lib.Seq.{sets};
 ghost use Rattle.rules.specs.Said.{saidNumbers};
-ghost use Rattle.lines.specs.Text.{decimal, lineOf, Put, Holds};
+ghost use Rattle.lines.specs.Text.{decimal, lineOf, Put};
 use rules::ReplyNumbers;
-
-// Four numbers of at most twenty digits, each with a byte after it.
-pub type Line = [u8; 84];
 
 // Bytes from a position on.
 fn put(line: &mut [u8], at: usize, text: &[u8])
@@ -23,7 +20,7 @@ fn put(line: &mut [u8], at: usize, text: &[u8])
 // A number in decimal and the byte after it: the position past both.
 fn put_number(line: &mut [u8], at: usize, number: u64, ending: u8) -> usize
     requires { ⌜ at + 21 ≤ length (now line) ⌝ }
-    ensures { λ r. ⌜ Put (now (line .entry)) at (decimal number ++ (ending ∷ [])) r (now (line .exit)) ⌝ }
+    ensures { λ r. ⌜ Put 21 (now (line .entry)) at (decimal number ++ (ending ∷ [])) r (now (line .exit)) ⌝ }
 {
     let mut digits = [0u8; 20];
     let count = io::decimal(number, &mut digits);
@@ -32,12 +29,13 @@ fn put_number(line: &mut [u8], at: usize, number: u64, ending: u8) -> usize
     at + count + 1
 }
 
-// The line at the front of the buffer: its length.
-pub fn write_line(position: u64, reply: ReplyNumbers, line: &mut Line) -> usize
-    ensures { λ r. ⌜ Holds (now (line .exit)) (lineOf position (saidNumbers reply)) r ⌝ }
+// A line from a position on: the position past it. Four numbers of at most twenty digits, each with a byte after it.
+pub fn write_line(text: &mut [u8], at: usize, position: u64, reply: ReplyNumbers) -> usize
+    requires { ⌜ at + 84 ≤ length (now text) ⌝ }
+    ensures { λ r. ⌜ Put 84 (now (text .entry)) at (lineOf position (saidNumbers reply)) r (now (text .exit)) ⌝ }
 {
-    let number = put_number(line, 0, position, b' ');
-    let first = put_number(line, number, reply.number as u64, b' ');
-    let second = put_number(line, first, reply.first as u64, b' ');
-    put_number(line, second, reply.second as u64, b'\n')
+    let number = put_number(text, at, position, b' ');
+    let first = put_number(text, number, reply.number as u64, b' ');
+    let second = put_number(text, first, reply.first as u64, b' ');
+    put_number(text, second, reply.second as u64, b'\n')
 }

@@ -1,6 +1,8 @@
 -- The example of document 01, computed.
 -- Assumes nothing.
-use mathlib.Core.Path.{refl}
+use Prim.Native.Nat.{ℕ}
+use mathlib.Core.Path.{refl, ap, _∙_}
+use mathlib.Core.List.{List}
 use Rattle.rules.specs.Basics.{bit, mapOf, has, anyAbove, same, mwAt}
 use Rattle.rules.specs.Sessions.{sessionThere, firstHour, hoursIn, sessionOf}
 use Rattle.rules.specs.Windows.{within, gateHour, opens, bidsClose, held, bidOutside, offerOutside}
@@ -16,8 +18,13 @@ use Rattle.rules.specs.Opening.{dayRefused, openingRefuses, dayHours, dayWeekda
 use Rattle.rules.specs.Records.{widths, callOf, kinds, stands, standing, numberAt, fieldsAt, endAt, fieldsIn, endIn, readerRefuses, reading}
 use Rattle.lines.specs.Text.{digitsOf, lineOf}
 use Rattle.stream.specs.Records.{startCalls, startBook, callMade, atFront}
-use Rattle.stream.specs.Input.{printed, ExamplePrinted}
+use Rattle.stream.specs.Input.{answerable, linesIn, printed}
+use Rattle.stream.specs.Running.{ExamplePrinted, ExampleWritten}
+use Rattle.stream.proofs.Running.{writes-all}
 
 pub example-printed : ExamplePrinted
-unfolding bit mapOf has anyAbove same mwAt sessionThere firstHour hoursIn sessionOf within gateHour opens bidsClose held bidOutside offerOutside between charValue allChars weighted isCode holds opened directionTaken codeTaken profileShort shortProfile shortHour shortage share withBid withRight rightNumber order firstOf field setupShut clock hourUnknown unknown taken gate hoursLacking wrongHours noAccess notOwner cycle full below shortageOf refuses isTimed clockAfter directionsAfter profilesAfter partiesAfter offeredAfter grantedAfter rightsAfter pairsAfter matchedAfter effect detail refusal applied run dayRefused openingRefuses dayHours dayWeekday opening widths callOf kinds stands standing numberAt fieldsAt endAt fieldsIn endIn readerRefuses reading digitsOf lineOf startCalls startBook callMade atFront printed
+unfolding bit mapOf has anyAbove same mwAt sessionThere firstHour hoursIn sessionOf within gateHour opens bidsClose held bidOutside offerOutside between charValue allChars weighted isCode holds opened directionTaken codeTaken profileShort shortProfile shortHour shortage share withBid withRight rightNumber order firstOf field setupShut clock hourUnknown unknown taken gate hoursLacking wrongHours noAccess notOwner cycle full below shortageOf refuses isTimed clockAfter directionsAfter profilesAfter partiesAfter offeredAfter grantedAfter rightsAfter pairsAfter matchedAfter effect detail refusal applied run dayRefused openingRefuses dayHours dayWeekday opening widths callOf kinds stands standing numberAt fieldsAt endAt fieldsIn endIn readerRefuses reading digitsOf lineOf startCalls startBook callMade atFront answerable linesIn
 example-printed = refl
+
+pub example-written : ExampleWritten
+example-written input written rest st s t last e = writes-all input written rest st s t last ∙ ap (λ (i : List ℕ). printed startBook 1 i) e ∙ example-printed

@@ -1,34 +1,31 @@
 -- The bytes that a buffer keeps, copied to its front.
 -- Assumes nothing.
-use Prim.Native.Nat.{ℕ, _+_, _-_, _≤_}
+use Prim.Native.Nat.{ℕ, _-_}
 use mathlib.Core.Path.{_≡_, refl, ap, _∙_}
 use mathlib.Core.List.{List, _++_}
 use native.Mathlib.Omega.{arith}
 use lib.ListN.{length, take, drop, length-append, length-drop}
 use lib.Seq.{take-length, take-at, length-take-le}
-use Rattle.stream.specs.Input.{Fronted}
-
-abbrev pub keptOf : List ℕ → ℕ → ℕ → List ℕ
-keptOf b from to = take (to - from) (drop from b)
+use Rattle.stream.specs.declared.Run.{Run}
+use Rattle.stream.specs.Running.{unread, Fits, Fronted}
 
 -- the first copy holds them
 pub first-copy : (kept rest rest′ : List ℕ) (n : ℕ) → n ≡ length kept → rest′ ≡ take (length kept) kept ++ drop (length kept) rest → take n rest′ ≡ kept
 first-copy kept rest rest′ n e c = rw (e, c, take-length kept) (take-at kept (drop (length kept) rest) (length kept) refl)
 
-module _ (b : List ℕ) (from to : ℕ) (h : from ≤ to) (l : to ≤ length b) where
-  abbrev kept : List ℕ
-  kept = keptOf b from to
-
-  pub kept-size : length kept ≡ to - from
-  kept-size = length-take-le (to - from) (drop from b) (simp length-drop (omega arith))
+module _ (b : List ℕ) (run : Run) (f : Fits b run) where
+  pub kept-size : length (unread b run) ≡ run .to - run .from
+  kept-size = length-take-le (run .to - run .from) (drop (run .from) b) (simp length-drop (omega arith))
 
   -- and the second puts them in front
-  pub second-copy : (text b′ : List ℕ) (r : ℕ) → text ≡ kept → r ≡ length text → b′ ≡ take (length text) text ++ drop (length text) b → Fronted b from to r b′
+  pub second-copy : (text b′ : List ℕ) (r : ℕ) → text ≡ unread b run → r ≡ length text → b′ ≡ take (length text) text ++ drop (length text) b
+      → Fronted b run (record { from = 0; to = r; position = run .position; ended = run .ended; done = run .done; filled = run .filled }) b′
   second-copy text b′ r t e c =
-      let n : r ≡ to - from = e ∙ ap length t ∙ kept-size in
-      let whole : b′ ≡ kept ++ drop (to - from) b = c ∙ rw (t, take-length kept, kept-size) in
+      let n : r ≡ run .to - run .from = e ∙ ap length t ∙ kept-size in
+      let whole : b′ ≡ unread b run ++ drop (run .to - run .from) b = c ∙ rw (t, take-length (unread b run), kept-size) in
+      let size : length b′ ≡ length b = rw (whole, length-append (unread b run) (drop (run .to - run .from) b), kept-size, length-drop (run .to - run .from) b) (omega arith) in
       record {
-        count = n;
-        front = rw (whole, n) (take-at kept (drop (to - from) b) (to - from) kept-size);
-        size = rw (whole, length-append kept (drop (to - from) b), kept-size, length-drop (to - from) b) (omega arith);
+        moved = rw n refl;
+        front = rw (whole, n) (take-at (unread b run) (drop (run .to - run .from) b) (run .to - run .from) kept-size);
+        fits = record { ordered = omega arith; inside = omega arith; room = f .room };
       }

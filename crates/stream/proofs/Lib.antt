@@ -2,6 +2,10 @@ pub mod Opening
 pub mod Made
 pub mod Taking
 pub mod Front
-pub mod Printing
+pub mod Patterns
+pub mod Settled
+pub mod Nexts
+pub mod Running
+pub mod Answering
 pub mod Fronts
 pub mod Example

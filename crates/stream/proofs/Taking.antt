@@ -1,27 +1,23 @@
 -- From the reader's promise and the call's to what the record at the front of bytes does.
 -- Assumes nothing.
 use Prim.Native.Nat.{ℕ, _≤_}
-use mathlib.Core.Path.{_≡_, refl, ap, subst, _∙_}
+use mathlib.Core.Path.{_≡_, refl, ap, _∙_}
 use mathlib.Core.Bool.{Bool, true, false}
 use mathlib.Core.List.{List, []}
 use native.Mathlib.Omega.{arith}
-use lib.Dec.{eqb}
 use lib.ListN.{length}
 use Rattle.rules.specs.Book.{Book}
-use Rattle.rules.specs.Calls.{Reply, noDetails}
-use Rattle.rules.specs.Said.{said, saidNumbers}
+use Rattle.rules.specs.Calls.{noDetails}
+use Rattle.rules.specs.Said.{said}
 use Rattle.rules.specs.Run.{applied}
 use Rattle.rules.specs.Records.{RecordReply, isKind, callOf, readerRefuses, noCall, reading}
 use Rattle.rules.specs.declared.Answer.{Answer}
 use Rattle.rules.specs.declared.CallRecord.{CallRecord}
-use Rattle.rules.specs.declared.ReplyNumbers.{ReplyNumbers}
 use Rattle.rules.proofs.Records.{readable, reading-by}
 use Rattle.cells.specs.View.{bookOf}
 use Rattle.record.specs.declared.RecordRead.{RecordRead}
 use Rattle.record.specs.Promises.{Reads}
-use Rattle.lines.specs.Text.{lineOf, Holds}
-use Rattle.stream.specs.declared.Taken.{Taken}
-use Rattle.stream.specs.Records.{callMade, AnswersRecord, atFront, Takes, Turns}
+use Rattle.stream.specs.Records.{callMade, AnswersRecord, atFront, Takes}
 
 pub front-read : (b : Book) (s : List ℕ) → reading s .number ≡ 0
     → atFront b s ≡ record { reply = applied b (callMade (reading s .call)) .reply; book = applied b (callMade (reading s .call)) .book; length = reading s .length }
@@ -53,6 +49,7 @@ module _ (b s : List ℕ) (r : RecordRead) (a : Answer) (b′ : List ℕ) (p : R
         size = rw t (same .0);
         kept = h .kept;
         within = rw (same .0, rd) (readable s e .ends);
+        fit = p .bytes-fit;
       }
 
   -- the reader refused it, and its call has no kind
@@ -68,6 +65,7 @@ module _ (b s : List ℕ) (r : RecordRead) (a : Answer) (b′ : List ℕ) (p : R
         size = rw t (same .0 ∙ ap (λ (x : RecordReply). x .length) rd);
         kept = λ _. h .1;
         within = rw (same .0, rd) (omega arith);
+        fit = p .bytes-fit;
       }
 
   pub takes : Takes b s (record { answer = a; length = r .length }) b′
@@ -76,16 +74,3 @@ module _ (b s : List ℕ) (r : RecordRead) (a : Answer) (b′ : List ℕ) (p : R
       go : (t : Bool) → readerRefuses s 1 ≡ t → Takes b s (record { answer = a; length = r .length }) b′
       go true e = when-refused e
       go false e = when-read e
-
--- and its line
-pub turns : (b s : List ℕ) (k : ℕ) (line : List ℕ) (t : Taken) (n : ReplyNumbers) (w : ℕ) (b′ : List ℕ) → Takes b s t b′ → saidNumbers n ≡ said (t .answer)
-    → Holds line (lineOf k (saidNumbers n)) w → Turns b k s line (record { read = t .length; written = w; ends = eqb (n .number) 1 }) b′
-turns b s k line t n w b′ p e h =
-    let r = e ∙ p .reply in
-    record {
-      text = subst (λ (a : Reply). Holds line (lineOf k a) w) r h;
-      book = p .book;
-      size = p .size;
-      last = ap (λ (a : Reply). eqb (a .number) 1) r;
-      within = p .within;
-    }

@@ -1,76 +1,81 @@
--- What the program prints for the whole of its input, however the input comes in parts.
+-- When the bytes at hand settle the answer to a record, and what the program prints for the whole of its input.
 -- Assumes nothing.
-use Prim.Native.Nat.{ℕ, zero, suc, _+_, _-_, _≤_}
+use Prim.Native.Nat.{ℕ, zero, suc, _+_, _%_, _^_, _<_}
 use mathlib.Core.Path.{_≡_}
-use mathlib.Core.Bool.{true, false, cond}
+use mathlib.Core.Bool.{Bool, true, false, cond, _||_, not}
 use mathlib.Core.List.{List, [], _∷_, _++_}
-use lib.Dec.{eqb}
-use lib.ListN.{length, take, drop}
+use lib.Dec.{eqb, ltb}
+use lib.ListN.{length, getD, drop, replicate}
 use Rattle.rules.specs.Book.{Book}
-use Rattle.rules.specs.Records.{reading}
-use Rattle.cells.specs.View.{bookOf}
+use Rattle.rules.specs.Records.{mapFor, bytesOf, RecordReply, reading}
 use Rattle.lines.specs.Text.{lineOf}
-use Rattle.stream.specs.declared.Turn.{Turn}
-use Rattle.stream.specs.Records.{atFront, Turns, startBook}
+use Rattle.stream.specs.Records.{atFront}
+
+-- ---- when the answer is settled
 
 -- no record has more bytes
 abbrev pub longest : ℕ
 longest = 24
 
--- a record is read alike from bytes that are as many, whatever follows them
-abbrev pub ReadsFront : Type 0
-ReadsFront = (bytes rest : List ℕ) → longest ≤ length bytes → reading (bytes ++ rest) ≡ reading bytes
+-- the bytes begin with a record that the reader takes
+abbrev pub isRead : List ℕ → Bool
+isRead s = eqb (reading s .number) 0
 
--- the bytes from one position up to another are at the front of the buffer; r is how many they are
-pub record Fronted (before : List ℕ) (from to r : ℕ) (after : List ℕ) : Type 0 where
-  pub count : r ≡ to - from
-  pub front : take r after ≡ take r (drop from before)
-  pub size : length after ≡ length before
+-- the map of a kind's record without MW, and then bytes that are a kind, and no MW of 0
+unfoldable pub pattern : ℕ → List ℕ
+pattern kind = bytesOf 2 (mapFor kind (replicate 15 0)) ++ replicate 22 kind
+
+-- the bytes at hand, and those of the pattern that they lack
+unfoldable pub completed : ℕ → List ℕ → List ℕ
+completed kind s = s ++ drop (length s) (pattern kind)
+
+-- completed for one of the kinds, they are read
+unfoldable pub canBeRead : List ℕ → Bool
+canBeRead s = isRead (completed 1 s) || isRead (completed 2 s) || isRead (completed 3 s) || isRead (completed 4 s) || isRead (completed 5 s)
+
+-- a record is at hand, or none can be read
+unfoldable pub settled : List ℕ → Bool
+settled s = isRead s || not (canBeRead s)
+
+abbrev pub Bytes : List ℕ → Type 0
+Bytes s = (i : ℕ) → getD s i 0 < 256
+
+-- where it is settled, what follows changes nothing
+abbrev pub SettledStays : Type 0
+SettledStays = (s t : List ℕ) → Bytes s → settled s ≡ true → reading (s ++ t) ≡ reading s
+
+-- where it isn't, the bytes alone are refused, and with some that follow they are read
+pub record Open (s : List ℕ) : Type 0 where
+  pub refused : isRead s ≡ false
+  pub more : List ℕ
+  pub accepted : isRead (s ++ more) ≡ true
+
+abbrev pub UnsettledOpen : Type 0
+UnsettledOpen = (s : List ℕ) → settled s ≡ false → Open s
+
+-- ---- what is printed
+
+-- once the input has ended, any bytes that are left are answered; before, a record that is settled
+unfoldable pub answerable : Bool → List ℕ → Bool
+answerable ended s = cond ended (ltb 0 (length s)) (settled s)
+
+-- positions are numbers of 64 bits
+abbrev pub following : ℕ → ℕ
+following k = (k + 1) % 2 ^ 64
 
 -- the lines from a position on, for a book and what is left of the input; n bounds how many there are
-unfoldable pub printed : ℕ → Book → ℕ → List ℕ → List ℕ
-printed zero b k s = []
-printed (suc n) b k [] = []
-printed (suc n) b k (x ∷ s) =
-    lineOf k (atFront b (x ∷ s) .reply)
-    ++ cond (eqb (atFront b (x ∷ s) .reply .number) 1) [] (printed n (atFront b (x ∷ s) .book) (k + 1) (drop (atFront b (x ∷ s) .length) (x ∷ s)))
+unfoldable pub linesIn : ℕ → Bool → Book → ℕ → List ℕ → List ℕ
+linesIn zero ended b k s = []
+linesIn (suc n) ended b k s =
+    cond (answerable ended s)
+    (lineOf k (atFront b s .reply)
+    ++ cond (eqb (atFront b s .reply .number) 1) [] (linesIn n ended (atFront b s .book) (following k) (drop (atFront b s .length) s)))
+    []
 
--- the bytes at hand are all that is left, or enough for any record
-pub data Enough : List ℕ → List ℕ → Type 0 where
-  all-left : {bytes : List ℕ} → Enough bytes []
-  many : {bytes rest : List ℕ} → longest ≤ length bytes → Enough bytes rest
+-- each line takes a byte at least
+abbrev pub linesOf : Bool → Book → ℕ → List ℕ → List ℕ
+linesOf ended b k s = linesIn (length s) ended b k s
 
--- a run of turns, each with the promise of `answer_next`: the cells, the position, what is left of the input, and the text printed from there on
-pub data Prints : List ℕ → ℕ → List ℕ → List ℕ → Type 0 where
-  ended : (cells : List ℕ) (position : ℕ) → Prints cells position [] []
-  refused : (cells : List ℕ) (position : ℕ) (bytes rest line : List ℕ) (r : Turn) (after : List ℕ) → 1 ≤ length bytes → Enough bytes rest
-      → Turns cells position bytes line r after → r .ends ≡ true → Prints cells position (bytes ++ rest) (take (r .written) line)
-  answered : (cells : List ℕ) (position : ℕ) (bytes rest line : List ℕ) (r : Turn) (after text : List ℕ) → 1 ≤ length bytes → Enough bytes rest
-      → Turns cells position bytes line r after → r .ends ≡ false → Prints after (position + 1) (drop (r .read) (bytes ++ rest)) text
-      → Prints cells position (bytes ++ rest) (take (r .written) line ++ text)
-
--- from the start, the text is that of the whole input, in whatever parts it came
-abbrev pub PrintsAll : Type 0
-PrintsAll = (cells input text : List ℕ) → bookOf cells ≡ startBook → Prints cells 1 input text → text ≡ printed (length input) startBook 1 input
-
--- ---- the example of document 01
-
--- a direction 0 offer of 100 in hour 1 at 1,000
-abbrev offerRecord : List ℕ
-offerRecord = 19 ∷ 66 ∷ 1 ∷ 232 ∷ 3 ∷ 0 ∷ 100 ∷ 0 ∷ 1 ∷ []
-
--- a bid of 60 by party 0 at 1,100
-abbrev bidRecord : List ℕ
-bidRecord = 87 ∷ 2 ∷ 3 ∷ 76 ∷ 4 ∷ 0 ∷ 0 ∷ 1 ∷ 60 ∷ 0 ∷ []
-
--- "1 0 100 0", "2 0 0 0", "3 15 1 0", each with the end of the line
-abbrev exampleText : List ℕ
-exampleText =
-    49 ∷ 32 ∷ 48 ∷ 32 ∷ 49 ∷ 48 ∷ 48 ∷ 32 ∷ 48 ∷ 10
-    ∷ 50 ∷ 32 ∷ 48 ∷ 32 ∷ 48 ∷ 32 ∷ 48 ∷ 10
-    ∷ 51 ∷ 32 ∷ 49 ∷ 53 ∷ 32 ∷ 49 ∷ 32 ∷ 48 ∷ 10
-    ∷ []
-
--- the offer and two such bids print these three lines
-abbrev pub ExamplePrinted : Type 0
-ExamplePrinted = printed 3 startBook 1 (offerRecord ++ (bidRecord ++ bidRecord)) ≡ exampleText
+-- those of an input that has ended
+abbrev pub printed : Book → ℕ → List ℕ → List ℕ
+printed b k s = linesOf true b k s

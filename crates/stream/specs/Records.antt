@@ -1,6 +1,6 @@
 -- What a call record does to a book, and what the functions over records promise.
 -- Assumes nothing.
-use Prim.Native.Nat.{ℕ, _≤_}
+use Prim.Native.Nat.{ℕ, _≤_, _<_}
 use mathlib.Core.Path.{_≡_}
 use mathlib.Core.Bool.{true, false, cond}
 use mathlib.Core.List.{List, [], _∷_}
@@ -17,9 +17,7 @@ use Rattle.rules.specs.declared.Answer.the-variants.{Record}
 use Rattle.rules.specs.declared.CallRecord.{CallRecord}
 use Rattle.cells.specs.View.{bookOf}
 use Rattle.answers.specs.Promises.{Answers}
-use Rattle.lines.specs.Text.{lineOf, Holds}
 use Rattle.stream.specs.declared.Taken.{Taken}
-use Rattle.stream.specs.declared.Turn.{Turn}
 
 -- ---- the book that the program starts with
 
@@ -73,11 +71,4 @@ pub record Takes (before bytes : List ℕ) (r : Taken) (after : List ℕ) : Type
   pub size : r .length ≡ atFront (bookOf before) bytes .length
   pub kept : isGrant (said (r .answer)) ≡ false → after ≡ before
   pub within : r .length ≤ length bytes
-
--- the record's line is at the front of the buffer; after a 1 the program ends
-pub record Turns (before : List ℕ) (position : ℕ) (bytes line : List ℕ) (r : Turn) (after : List ℕ) : Type 0 where
-  pub text : Holds line (lineOf position (atFront (bookOf before) bytes .reply)) (r .written)
-  pub book : bookOf after ≡ atFront (bookOf before) bytes .book
-  pub size : r .read ≡ atFront (bookOf before) bytes .length
-  pub last : r .ends ≡ eqb (atFront (bookOf before) bytes .reply .number) 1
-  pub within : r .read ≤ length bytes
+  pub fit : (i : ℕ) → getD bytes i 0 < 256

@@ -1,14 +1,15 @@
-// Call records on a book: the call of a record, the record at the front of bytes, and its line.
+// Call records on a book, as they arrive: the call of a record, when its answer is settled, and the steps of the program `dayrun`.
 ghost use mathlib.Core.Path.{_≡_};
-ghost use Prim.Native.Nat.{_-_, _<_, _≤_};
-ghost use mathlib.Core.Bool.{_||_};
+ghost use mathlib.Core.Bool.{_&&_, not};
+ghost use mathlib.Core.List.{_∷_, _++_};
+ghost use Prim.Native.Nat.{_+_, _-_, _^_, _<_, _≤_};
 ghost use lib.Dec.{leb};
-ghost use lib.ListN.{length};
+ghost use lib.ListN.{length, drop, replicate};
 ghost use Rattle.cells.specs.View.{bookOf};
-ghost use Rattle.stream.specs.Records.{startBook, AnswersRecord, Takes, Turns};
-ghost use Rattle.stream.specs.Input.{longest, Fronted};
+ghost use Rattle.stream.specs.Records.{startBook, AnswersRecord, Takes};
+ghost use Rattle.stream.specs.Input.{longest, isRead, canBeRead, settled, answerable};
+ghost use Rattle.stream.specs.Running.{textSize, lineSize, unread, Fits, ready, nextOf, startRun, AnswersNext, wroteRun, Fronted, receivedRun};
 use cells::Book;
-use lines::Line;
 use rules::Answer;
 use rules::CallRecord;
 
@@ -18,12 +19,26 @@ pub struct Taken {
     pub length: usize,
 }
 
-// How many bytes were read, and how many of the line's were written; whether the answer was 1.
-pub struct Turn {
-    pub read: usize,
-    pub written: usize,
-    pub ends: bool,
+// The unread bytes stand in the input's buffer from `from` up to `to`, the collected lines in the first `filled` bytes of the text.
+// The position is that of the next record.
+pub struct Run {
+    pub from: usize,
+    pub to: usize,
+    pub position: u64,
+    pub ended: bool,
+    pub done: bool,
+    pub filled: usize,
 }
+
+// What the program does next: answers a record, writes the collected lines, reads, or ends.
+pub enum Next {
+    Answer,
+    Write,
+    Read,
+    End,
+}
+
+// ---- records
 
 // A Monday of 24 hours with direction 0 and party 0.
 pub fn open_book(book: &mut Book)
@@ -70,33 +85,198 @@ pub fn take_record(book: &mut Book, bytes: &[u8]) -> Taken
     }
 }
 
-// Takes the next record and writes its line.
-pub fn answer_next(book: &mut Book, position: u64, bytes: &[u8], line: &mut Line) -> Turn
-    ensures { λ r. ⌜ Turns (now (book .entry)) position (now (bytes .entry)) (now (line .exit)) r (now (book .exit)) ⌝ }
+// ---- when a record is settled
+
+// The bytes begin with a record.
+fn is_read(bytes: &[u8]) -> bool
+    ensures { λ r. ⌜ r ≡ isRead (now (bytes .entry)) ⌝ }
 {
-    let taken = take_record(book, bytes);
-    let answer = taken.answer;
+    let read = record::read(bytes);
+    let answer = read.answer;
     let reply = daybook::numbers(answer);
-    Turn {
-        read: taken.length,
-        written: lines::write_line(position, reply, line),
-        ends: reply.number == 1,
+    reply.number == 0
+}
+
+// They do once the bytes that are missing are the kind's map and number.
+fn is_read_as(bytes: &[u8], kind: u8, low: u8, high: u8) -> bool
+    requires { ⌜ length (now bytes) ≤ longest ⌝ }
+    ensures { λ r. ⌜ r ≡ isRead (now (bytes .entry) ++ drop (length (now (bytes .entry))) (low ∷ high ∷ replicate 22 kind)) ⌝ }
+{
+    let mut completed = [kind; 24];
+    completed[0] = low;
+    completed[1] = high;
+    bytes::copy(bytes, &mut completed);
+    is_read(&completed)
+}
+
+// Some bytes that follow make a record of them.
+fn can_be_read(bytes: &[u8]) -> bool
+    requires { ⌜ length (now bytes) ≤ longest ⌝ }
+    ensures { λ r. ⌜ r ≡ canBeRead (now (bytes .entry)) ⌝ }
+{
+    if is_read_as(bytes, 1, 0x13, 0x40) {
+        return true;
+    }
+    if is_read_as(bytes, 2, 0x23, 0x40) {
+        return true;
+    }
+    if is_read_as(bytes, 3, 0x57, 0x00) {
+        return true;
+    }
+    if is_read_as(bytes, 4, 0x8F, 0x01) {
+        return true;
+    }
+    is_read_as(bytes, 5, 0x53, 0x00)
+}
+
+// The answer is known, whatever follows the bytes.
+pub fn is_settled(bytes: &[u8]) -> bool
+    ensures { λ r. ⌜ r ≡ settled (now (bytes .entry)) ⌝ }
+{
+    if bytes.len() >= 24 {
+        return true;
+    }
+    if is_read(bytes) {
+        return true;
+    }
+    !can_be_read(bytes)
+}
+
+// ---- the program's steps
+
+// Nothing is read yet, and the first position is 1.
+pub fn start() -> Run
+    ensures { λ r. ⌜ r ≡ startRun ⌝ }
+{
+    Run {
+        from: 0,
+        to: 0,
+        position: 1,
+        ended: false,
+        done: false,
+        filled: 0,
     }
 }
 
-// The bytes at hand are enough to read a record: as many as the longest has, or all that is left.
-pub fn is_enough(count: usize, ended: bool) -> bool
-    ensures { λ r. ⌜ r ≡ (leb longest count || ended) ⌝ }
+// The next record can be answered: any bytes once the input has ended, else a record that is settled.
+fn is_answerable(bytes: &[u8], ended: bool) -> bool
+    ensures { λ r. ⌜ r ≡ answerable ended (now (bytes .entry)) ⌝ }
 {
-    count >= 24 || ended
+    if ended {
+        return bytes.len() > 0;
+    }
+    is_settled(bytes)
 }
 
-// Moves the bytes from a position up to another to the front of the buffer: how many they are.
-pub fn to_front(buffer: &mut [u8], from: usize, to: usize) -> usize
-    requires { ⌜ (from ≤ to) × ((to ≤ length (now buffer)) × (to - from < longest)) ⌝ }
-    ensures { λ r. ⌜ Fronted (now (buffer .entry)) from to r (now (buffer .exit)) ⌝ }
+// The program goes on, and a line more fits the text.
+fn has_room(run: Run) -> bool
+    requires { ⌜ run .filled ≤ textSize ⌝ }
+    ensures { λ r. ⌜ r ≡ (not (run .done) && leb (run .filled + lineSize) textSize) ⌝ }
 {
+    if run.done {
+        return false;
+    }
+    run.filled + 84 <= 4096
+}
+
+// The next record is answered now.
+fn is_ready(bytes: &[u8], run: Run) -> bool
+    requires { ⌜ run .filled ≤ textSize ⌝ }
+    ensures { λ r. ⌜ r ≡ ready (now (bytes .entry)) run ⌝ }
+{
+    if !has_room(run) {
+        return false;
+    }
+    is_answerable(bytes, run.ended)
+}
+
+// It reads only where nothing is settled and nothing is collected.
+pub fn what_next(buffer: &[u8], run: Run) -> Next
+    requires { ⌜ Fits (now buffer) run ⌝ }
+    ensures { λ r. ⌜ r ≡ nextOf (unread (now (buffer .entry)) run) run ⌝ }
+{
+    let from = run.from;
+    let to = run.to;
+    if is_ready(&buffer[from..to], run) {
+        return Next::Answer;
+    }
+    if run.filled > 0 {
+        return Next::Write;
+    }
+    if run.done {
+        return Next::End;
+    }
+    if run.ended {
+        return Next::End;
+    }
+    Next::Read
+}
+
+// Answers the next record and collects its line. The program is done after a 1.
+pub fn answer_next(book: &mut Book, buffer: &[u8], run: Run, text: &mut [u8]) -> Run
+    requires { ⌜ Fits (now buffer) run × ((run .filled + lineSize ≤ textSize) × (textSize ≤ length (now text))) ⌝ }
+    ensures { λ r. ⌜ AnswersNext (now (book .entry)) (now (buffer .entry)) run (now (text .entry)) r (now (text .exit)) (now (book .exit)) ⌝ }
+{
+    let from = run.from;
+    let to = run.to;
+    let taken = take_record(book, &buffer[from..to]);
+    let answer = taken.answer;
+    let reply = daybook::numbers(answer);
+    let filled = lines::write_line(text, run.filled, run.position, reply);
+    Run {
+        from: from + taken.length,
+        to,
+        position: std::num::wrapping_add_u64(run.position, 1),
+        ended: run.ended,
+        done: reply.number == 1,
+        filled,
+    }
+}
+
+// The collected lines were written. Where they couldn't be, the program is done.
+pub fn wrote(run: Run, written: bool) -> Run
+    ensures { λ r. ⌜ r ≡ wroteRun run written ⌝ }
+{
+    Run {
+        from: run.from,
+        to: run.to,
+        position: run.position,
+        ended: run.ended,
+        done: run.done || !written,
+        filled: 0,
+    }
+}
+
+// Moves the unread bytes to the front of the buffer.
+pub fn to_front(buffer: &mut [u8], run: Run) -> Run
+    requires { ⌜ Fits (now buffer) run × (run .to - run .from < longest) ⌝ }
+    ensures { λ r. ⌜ Fronted (now (buffer .entry)) run r (now (buffer .exit)) ⌝ }
+{
+    let from = run.from;
+    let to = run.to;
     let mut rest = [0u8; 24];
     let count = bytes::copy(&buffer[from..to], &mut rest);
-    bytes::copy(&rest[..count], buffer)
+    Run {
+        from: 0,
+        to: bytes::copy(&rest[..count], buffer),
+        position: run.position,
+        ended: run.ended,
+        done: run.done,
+        filled: run.filled,
+    }
+}
+
+// A read brought bytes more. None is the end of the input.
+pub fn received(run: Run, more: usize) -> Run
+    requires { ⌜ run .to + more < 2 ^ 64 ⌝ }
+    ensures { λ r. ⌜ r ≡ receivedRun run more ⌝ }
+{
+    Run {
+        from: run.from,
+        to: run.to + more,
+        position: run.position,
+        ended: more == 0,
+        done: run.done,
+        filled: run.filled,
+    }
 }

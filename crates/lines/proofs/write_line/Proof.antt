@@ -1,6 +1,5 @@
 -- `lines::write_line` meets its contract.
 -- Assumes nothing.
-use Prim.Native.Nat.{_≤_}
 use borrow.Author.Needs.{needs}
 use Rattle.lines.specs.Text.{lineOf}
 use Rattle.lines.proofs.Stores.{lined}
@@ -10,8 +9,11 @@ use Rattle.lines.proofs.write_line.Tie as tie
 returns : tie.Need-returns
 unfolding lineOf
 returns c =
-    lined _ (search needs) (c .before .before .before .before .before .before .before .before .before .put-number .ensures)
-    (c .before .before .before .before .before .before .put-number2 .ensures) (c .before .before .before .put-number3 .ensures) (c .put-number4 .ensures)
+    let fourth = c .before .before in
+    let third = fourth .before .before .before .before .before in
+    let second = third .before .before .before .before .before in
+    let first = second .before .before .before .before .before in
+    lined _ (first .put-number .ensures) (second .put-number2 .ensures) (third .put-number3 .ensures) (fourth .put-number4 .ensures)
 
 pub write-line-spec : {M : Type 1} → statement M
 write-line-spec =
@@ -24,4 +26,5 @@ write-line-spec =
     (λ c κs. search needs)
     (λ c. search needs)
     (λ c κs. search needs)
+    (λ c. search needs)
     returns)

@@ -1,21 +1,22 @@
 -- `stream::to_front` meets its contract.
 -- Assumes nothing.
+use Prim.Native.Nat.{_-_}
 use mathlib.Core.Path.{_≡_}
 use native.Mathlib.Omega.{arith}
 use borrow.Author.Needs.{needs}
-use Prim.Native.Nat.{_-_}
 use denote.Ref.{now}
 use lib.ListN.{length, take}
-use Rattle.stream.proofs.Fronts.{keptOf, kept-size, first-copy, second-copy}
+use Rattle.stream.specs.Running.{unread}
+use Rattle.stream.proofs.Fronts.{kept-size, first-copy, second-copy}
 use Rattle.stream.proofs.to_front.Statement.{statement}
 use Rattle.stream.proofs.to_front.Tie as tie
 
 -- what the first copy holds
-held : (c : tie.After-copy) → let a = c .before .before .before .before .before .args in take (c .copy .result) (c .copy .last .1 .0) ≡ keptOf (now (a .buffer)) (a .from) (a .to)
-held c = let a = c .before .before .before .before .before .args in first-copy (keptOf (now (a .buffer)) (a .from) (a .to)) _ _ _ (c .copy .ensures .0) (c .copy .ensures .1)
+held : (c : tie.After-copy) → let a = c .before .before .before .before .before .args in take (c .copy .result) (c .copy .last .1 .0) ≡ unread (now (a .buffer)) (a .run)
+held c = let a = c .before .before .before .before .before .args in first-copy (unread (now (a .buffer)) (a .run)) _ _ _ (c .copy .ensures .0) (c .copy .ensures .1)
 
-size : (c : tie.After-copy) → let a = c .before .before .before .before .before .args in length (keptOf (now (a .buffer)) (a .from) (a .to)) ≡ a .to - a .from
-size c = let p = c .before .before .before .before .before .pre in kept-size _ _ _ (p .0) (p .1 .0)
+size : (c : tie.After-copy) → let a = c .before .before .before .before .before .args in length (unread (now (a .buffer)) (a .run)) ≡ a .run .to - a .run .from
+size c = kept-size _ _ (c .before .before .before .before .before .pre .0)
 
 slice-aggregate-copy-2 : tie.Need-slice-aggregate-copy-2
 slice-aggregate-copy-2 c = rw (held (c .before .before)) (c .before .before .copy .ensures .0)
@@ -26,7 +27,7 @@ copy-requires-2 c κs = rw (held (c .before .before .before), size (c .before .b
 returns : tie.Need-returns
 returns c =
     let p = c .before .before .before .before .before .before .before .before .before .before .before .pre in
-    second-copy _ _ _ (p .0) (p .1 .0) _ _ _ (held (c .before .before .before .before .before .before)) (c .before .before .copy2 .ensures .0) (c .before .before .copy2 .ensures .1)
+    second-copy _ _ (p .0) _ _ _ (held (c .before .before .before .before .before .before)) (c .before .before .copy2 .ensures .0) (c .before .before .copy2 .ensures .1)
 
 pub to-front-spec : {M : Type 1} → statement M
 to-front-spec =

@@ -1,0 +1,160 @@
+-- The program's state and steps, and what a run of them writes, however its input comes in parts.
+-- Assumes nothing.
+use Prim.Native.Nat.{ℕ, _+_, _-_, _≤_, _<_}
+use mathlib.Core.Path.{_≡_}
+use mathlib.Core.Bool.{Bool, true, false, cond, _||_, _&&_, not}
+use mathlib.Core.List.{List, [], _∷_, _++_}
+use lib.Dec.{eqb, leb, ltb}
+use lib.ListN.{length, take, drop}
+use Rattle.cells.specs.View.{bookOf}
+use Rattle.lines.specs.Text.{lineOf}
+use Rattle.stream.specs.declared.Run.{Run}
+use Rattle.stream.specs.declared.Next.{Next}
+use Rattle.stream.specs.declared.Next.the-variants.{Answer, Write, Read, End}
+use Rattle.stream.specs.Records.{Effect, startBook, atFront}
+use Rattle.stream.specs.Input.{Bytes, answerable, following, linesOf, printed}
+
+-- ---- the state
+
+-- the bytes that were read from the input and not yet taken
+abbrev pub unread : List ℕ → Run → List ℕ
+unread buffer run = take (run .to - run .from) (drop (run .from) buffer)
+
+-- the lines that wait to be written
+abbrev pub collected : List ℕ → Run → List ℕ
+collected text run = take (run .filled) text
+
+-- bytes of the text, and of the longest line
+abbrev pub textSize : ℕ
+textSize = 4096
+
+abbrev pub lineSize : ℕ
+lineSize = 84
+
+-- the run's positions lie in the buffer and in the text
+pub record Fits (buffer : List ℕ) (run : Run) : Type 0 where
+  pub ordered : run .from ≤ run .to
+  pub inside : run .to ≤ length buffer
+  pub room : run .filled ≤ textSize
+
+-- ---- what comes next
+
+-- the program goes on, a line more fits the text, and the next record can be answered
+abbrev pub ready : List ℕ → Run → Bool
+ready bytes run = not (run .done) && leb (run .filled + lineSize) textSize && answerable (run .ended) bytes
+
+-- that record; else the collected lines are written; else the end, or a read
+unfoldable pub nextOf : List ℕ → Run → Next
+nextOf bytes run = cond (ready bytes run) Answer (cond (ltb 0 (run .filled)) Write (cond (run .done || run .ended) End Read))
+
+-- ---- the steps
+
+abbrev pub startRun : Run
+startRun = record { from = 0; to = 0; position = 1; ended = false; done = false; filled = 0 }
+
+-- after a record with this effect was answered: a 1 is the last
+abbrev pub answeredRun : Run → Effect → Run
+answeredRun run a =
+    record {
+      from = run .from + a .length;
+      to = run .to;
+      position = following (run .position);
+      ended = run .ended;
+      done = eqb (a .reply .number) 1;
+      filled = run .filled + length (lineOf (run .position) (a .reply));
+    }
+
+-- the next record is answered, and its line collected
+pub record AnswersNext (before buffer : List ℕ) (run : Run) (text : List ℕ) (r : Run) (text′ after : List ℕ) : Type 0 where
+  pub book : bookOf after ≡ atFront (bookOf before) (unread buffer run) .book
+  pub line : collected text′ r ≡ collected text run ++ lineOf (run .position) (atFront (bookOf before) (unread buffer run) .reply)
+  pub moved : r ≡ answeredRun run (atFront (bookOf before) (unread buffer run))
+  pub fits : Fits buffer r
+  pub bytes : Bytes (unread buffer run)
+
+-- the lines were written; where they couldn't be, the program is done
+abbrev pub wroteRun : Run → Bool → Run
+wroteRun run written =
+    record { from = run .from; to = run .to; position = run .position; ended = run .ended; done = run .done || not written; filled = 0 }
+
+abbrev pub frontRun : Run → Run
+frontRun run =
+    record { from = 0; to = run .to - run .from; position = run .position; ended = run .ended; done = run .done; filled = run .filled }
+
+-- the unread bytes are at the front of the buffer
+pub record Fronted (before : List ℕ) (run r : Run) (after : List ℕ) : Type 0 where
+  pub moved : r ≡ frontRun run
+  pub front : take (r .to) after ≡ unread before run
+  pub fits : Fits after r
+
+-- a read brought some bytes more; none is the end of the input
+abbrev pub receivedRun : Run → ℕ → Run
+receivedRun run more =
+    record { from = run .from; to = run .to + more; position = run .position; ended = eqb more 0; done = run .done; filled = run .filled }
+
+-- ---- a run of the program
+
+-- the cells of the book, the input's buffer, the text and the run
+pub record State : Type 0 where
+  pub cells : List ℕ
+  pub buffer : List ℕ
+  pub text : List ℕ
+  pub run : Run
+
+abbrev pub nextIn : State → Next
+nextIn st = nextOf (unread (st .buffer) (st .run)) (st .run)
+
+-- the states that steps lead to, each with the promise of its function: what was read of the input so far, what was written, the state.
+-- A read puts bytes behind those at the front of the buffer, as many as it likes
+pub data Reaches : List ℕ → List ℕ → State → Type 0 where
+  begins : (cells buffer text : List ℕ) → bookOf cells ≡ startBook → Reaches [] [] (record { cells = cells; buffer = buffer; text = text; run = startRun })
+  answers : {input written : List ℕ} {st : State} (r : Run) (text after : List ℕ) → Reaches input written st → nextIn st ≡ Answer
+      → AnswersNext (st .cells) (st .buffer) (st .run) (st .text) r text after
+      → Reaches input written (record { cells = after; buffer = st .buffer; text = text; run = r })
+  writes : {input written : List ℕ} {st : State} → Reaches input written st → nextIn st ≡ Write
+      → Reaches input (written ++ collected (st .text) (st .run)) (record { cells = st .cells; buffer = st .buffer; text = st .text; run = wroteRun (st .run) true })
+  reads : {input written : List ℕ} {st : State} (r : Run) (front more buffer : List ℕ) → Reaches input written st → nextIn st ≡ Read
+      → Fronted (st .buffer) (st .run) r front → take (r .to + length more) buffer ≡ take (r .to) front ++ more
+      → Reaches (input ++ more) written (record { cells = st .cells; buffer = buffer; text = st .text; run = receivedRun r (length more) })
+
+-- at the end of a run all lines of the whole input are written; where the run ended by itself, there may be a rest that it didn't read
+abbrev pub WritesAll : Type 0
+WritesAll =
+    (input written rest : List ℕ) (st : State) → Reaches input written st → nextIn st ≡ End → (st .run .ended ≡ true → rest ≡ [])
+    → written ≡ printed startBook 1 (input ++ rest)
+
+-- before each read, the lines of all records that are settled are written, and no others
+abbrev pub WritesAtOnce : Type 0
+WritesAtOnce = (input written : List ℕ) (st : State) → Reaches input written st → nextIn st ≡ Read → written ≡ linesOf false startBook 1 input
+
+-- ---- the example of document 01
+
+-- a direction 0 offer of 100 in hour 1 at 1,000
+abbrev offerRecord : List ℕ
+offerRecord = 19 ∷ 66 ∷ 1 ∷ 232 ∷ 3 ∷ 0 ∷ 100 ∷ 0 ∷ 1 ∷ []
+
+-- a bid of 60 by party 0 at 1,100
+abbrev bidRecord : List ℕ
+bidRecord = 87 ∷ 2 ∷ 3 ∷ 76 ∷ 4 ∷ 0 ∷ 0 ∷ 1 ∷ 60 ∷ 0 ∷ []
+
+-- the offer and two such bids
+abbrev pub exampleInput : List ℕ
+exampleInput = offerRecord ++ (bidRecord ++ bidRecord)
+
+-- "1 0 100 0", "2 0 0 0", "3 15 1 0", each with the end of the line
+abbrev pub exampleText : List ℕ
+exampleText =
+    49 ∷ 32 ∷ 48 ∷ 32 ∷ 49 ∷ 48 ∷ 48 ∷ 32 ∷ 48 ∷ 10
+    ∷ 50 ∷ 32 ∷ 48 ∷ 32 ∷ 48 ∷ 32 ∷ 48 ∷ 10
+    ∷ 51 ∷ 32 ∷ 49 ∷ 53 ∷ 32 ∷ 49 ∷ 32 ∷ 48 ∷ 10
+    ∷ []
+
+-- they print these three lines
+abbrev pub ExamplePrinted : Type 0
+ExamplePrinted = printed startBook 1 exampleInput ≡ exampleText
+
+-- and so a run that comes to its end over them writes these, in whatever parts it reads them
+abbrev pub ExampleWritten : Type 0
+ExampleWritten =
+    (input written rest : List ℕ) (st : State) → Reaches input written st → nextIn st ≡ End → (st .run .ended ≡ true → rest ≡ [])
+    → input ++ rest ≡ exampleInput → written ≡ exampleText
