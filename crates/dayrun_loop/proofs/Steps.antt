@@ -9,11 +9,11 @@ use lib.ListN.{length, take, drop, length-append, length-take, length-drop}
 use lib.Seq.{take-append-add, take-append-le, length-take-le}
 use Rattle.cells.specs.View.{bookOf}
 use Rattle.stream.specs.declared.Run.{Run}
-use Rattle.stream.specs.declared.Next.the-variants.{Answer, Write, Read, End}
+use Rattle.stream.specs.declared.Next.the-variants.{Answer, Write, Read}
 use Rattle.stream.specs.Records.{startBook}
-use Rattle.stream.specs.Running.{textSize, unread, Fits, nextOf, startRun, AnswersNext, wroteRun, Fronted, receivedRun, State, nextIn, Reaches, begins, answers, writes, reads}
+use Rattle.stream.specs.Running.{textSize, unread, nextOf, startRun, AnswersNext, wroteRun, Fronted, receivedRun, State, nextIn, begins, answers, writes, reads}
 use Rattle.stream.proofs.Nexts.{answering, reading-on}
-use Rattle.dayrun_loop.specs.Steps.{Wrote, ReadsMore, Runs, reached, failed, Goes, Ended}
+use Rattle.dayrun_loop.specs.Steps.{Wrote, ReadsMore, Runs, reached, failed, Goes}
 
 -- ---- the functions that read
 

@@ -7,7 +7,7 @@ use mathlib.Core.List.{List, [], _∷_, _++_}
 use native.Mathlib.Omega.{arith}
 use lib.Dec.{eqb}
 use lib.ListN.{length, length-append, List·getD-append}
-use borrow.Author.Tests.{le-ltb, eqb-true, eq-eqb}
+use borrow.Author.Tests.{le-ltb, eqb-true}
 use Rattle.rules.specs.Basics.{bit}
 use Rattle.rules.specs.Records.{widths, numberAt, mapAt, taking, fieldsAt, endAt, fieldsIn, endIn, readerRefuses, RecordReply, reading}
 use Rattle.rules.proofs.Records.{end-after, reading-by, reader-accepts, readable}

@@ -1,19 +1,19 @@
 -- What the choice of the next step shows of the run.
 -- Assumes nothing.
 use Prim.Native.Nat.{ℕ, _+_, _-_, _≤_, _<_}
-use mathlib.Core.Path.{_≡_, refl, sym, ap, _∙_}
+use mathlib.Core.Path.{_≡_, refl, ap, _∙_}
 use mathlib.Core.Logic.{_⊎_, inl, inr, ⊎-elim}
 use mathlib.Core.Bool.{Bool, true, false, cond, _||_, _&&_, not}
 use mathlib.Core.List.{List}
 use native.Mathlib.Omega.{arith}
 use lib.Dec.{leb, ltb}
-use lib.ListN.{length, drop, length-drop}
+use lib.ListN.{drop, length-drop}
 use lib.Seq.{length-take-le}
 use borrow.Author.Tests.{lt-ltb, le-ltb, leb-true, ltb-false}
 use Rattle.stream.specs.declared.Run.{Run}
 use Rattle.stream.specs.declared.Next.{Next}
 use Rattle.stream.specs.declared.Next.the-variants.{Answer, Write, Read, End}
-use Rattle.stream.specs.Input.{longest, settled, answerable}
+use Rattle.stream.specs.Input.{longest, answerable}
 use Rattle.stream.specs.Running.{unread, textSize, lineSize, Fits, ready, nextOf}
 use Rattle.stream.proofs.Settled.{unsettled-few}
 

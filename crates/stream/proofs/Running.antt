@@ -1,27 +1,25 @@
 -- What a run of the program writes does not depend on the parts that its input comes in, and is written before each read.
 -- Assumes nothing.
 use Prim.Native.Nat.{ℕ, zero, suc, _+_, _-_, _≤_, _<_}
-use mathlib.Core.Path.{_≡_, refl, sym, ap, subst, _∙_}
-use mathlib.Core.Bool.{Bool, true, false, cond, _||_, _&&_, not, true≢false, false≢true}
+use mathlib.Core.Path.{_≡_, refl, sym, ap, _∙_}
+use mathlib.Core.Bool.{Bool, true, false, cond, _||_, _&&_, true≢false, false≢true}
 use mathlib.Core.List.{List, [], _∷_, _++_, append-nil, append-assoc}
 use native.Mathlib.Omega.{arith}
-use native.Mathlib.Nat.{add-zero}
-use lib.Dec.{eqb, leb, ltb}
+use lib.Dec.{eqb}
 use lib.ListN.{length, take, drop, length-append, length-drop}
 use lib.Seq.{drop-drop, drop-append-le, take-nil}
 use mathlib.Core.Logic.{_⊎_, inl, inr}
-use borrow.Author.Tests.{lt-ltb, ltb-true, ltb-false, not-true}
+use borrow.Author.Tests.{lt-ltb}
 use Rattle.rules.specs.Book.{Book}
-use Rattle.rules.specs.Records.{RecordReply, reading, endIn, readerRefuses}
+use Rattle.rules.specs.Records.{RecordReply, readerRefuses}
 use Rattle.rules.proofs.Records.{reading-by, readable}
 use Rattle.cells.specs.View.{bookOf}
 use Rattle.lines.specs.Text.{lineOf}
 use Rattle.stream.specs.declared.Run.{Run}
-use Rattle.stream.specs.declared.Next.{Next}
-use Rattle.stream.specs.declared.Next.the-variants.{Answer, Write, Read, End}
+use Rattle.stream.specs.declared.Next.the-variants.{Answer, Write, Read}
 use Rattle.stream.specs.Records.{Effect, startBook, atFront}
-use Rattle.stream.specs.Input.{Bytes, settled, answerable, following, linesIn, linesOf, printed}
-use Rattle.stream.specs.Running.{unread, collected, textSize, lineSize, nextOf, startRun, answeredRun, AnswersNext, wroteRun, frontRun, Fronted, receivedRun, State, nextIn, Reaches, begins, answers, writes, reads, WritesAll, WritesAtOnce}
+use Rattle.stream.specs.Input.{Bytes, answerable, following, linesIn, linesOf}
+use Rattle.stream.specs.Running.{unread, collected, answeredRun, AnswersNext, wroteRun, Fronted, receivedRun, State, nextIn, Reaches, begins, answers, writes, reads, WritesAll, WritesAtOnce}
 use Rattle.stream.proofs.Taking.{front-read, front-refused}
 use Rattle.stream.proofs.Patterns.{nothing-open}
 use Rattle.stream.proofs.Front.{end-least}

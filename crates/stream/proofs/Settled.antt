@@ -4,21 +4,21 @@ use Prim.Native.Nat.{ℕ, zero, suc, _+_, _-_, _*_, _≤_, _<_}
 use mathlib.Core.Path.{_≡_, refl, sym, ap, subst, _∙_}
 use mathlib.Core.Logic.{_⊎_, inl, inr, ⊎-elim}
 use mathlib.Core.Bool.{Bool, true, false, cond, _||_, _&&_, not, true≢false, false≢true}
-use mathlib.Core.List.{List, [], _∷_, _++_, append-assoc, append-nil}
+use mathlib.Core.List.{List, [], _∷_, _++_, append-assoc}
 use native.Mathlib.Omega.{arith}
 use native.Mathlib.Nat.{add-zero, zero-add}
 use lib.Dec.{eqb, ltb}
-use lib.ListN.{length, getD, drop, replicate, length-append, length-drop, length-replicate, getD-replicate, List·getD-append}
+use lib.ListN.{length, getD, drop, replicate, length-append, length-drop, getD-replicate, List·getD-append}
 use lib.Seq.{getD-append-add, getD-drop}
-use borrow.Author.Tests.{le-ltb, lt-ltb, ltb-true, ltb-false, ne-eqb, not-true, not-false}
+use borrow.Author.Tests.{le-ltb, ltb-true, ltb-false, ne-eqb, not-true, not-false}
 use Rattle.rules.specs.Basics.{bit, mapOf, has}
-use Rattle.rules.specs.Records.{Kind, widths, kinds, kindAt, isKind, stands, standing, mapFor, bytesOf, numberAt, mapAt, taking, fieldsAt, endAt, fieldsIn, endIn, readerRefuses, RecordReply, reading}
+use Rattle.rules.specs.Records.{Kind, widths, kinds, kindAt, isKind, stands, standing, mapFor, bytesOf, numberAt, mapAt, taking, fieldsAt, fieldsIn, endIn, readerRefuses, RecordReply, reading}
 use Rattle.rules.proofs.Bools.{or-left, or-right, or-true, and-left, and-right}
 use Rattle.rules.proofs.Bits.{bit-of-map}
-use Rattle.rules.proofs.Records.{end-after, readable, Readable}
+use Rattle.rules.proofs.Records.{readable, Readable}
 use Rattle.stream.specs.Input.{longest, isRead, pattern, completed, canBeRead, settled, Bytes, SettledStays, Open, UnsettledOpen}
 use Rattle.stream.proofs.Patterns.{read-1, read-2, read-3, read-4, read-5, nothing-open}
-use Rattle.stream.proofs.Front.{taking-most, total, end-longest, end-least, number-front, map-front, whole-same, accepts, is-read, refused-alike, read-whole}
+use Rattle.stream.proofs.Front.{taking-most, total, end-longest, end-least, map-front, whole-same, accepts, is-read, refused-alike, read-whole}
 
 -- ---- a field that isn't wholly there
 
@@ -91,6 +91,21 @@ unfolding pattern bytesOf
 pattern-byte k zero l h = absurd (omega arith)
 pattern-byte k (suc zero) l h = absurd (omega arith)
 pattern-byte k (suc (suc j)) l h = getD-replicate 22 j k 0 (omega arith)
+
+-- it is bytes, and so is what it adds
+repeated-fits : (n k j : ℕ) → k < 256 → getD (replicate n k) j 0 < 256
+repeated-fits zero k j l = omega arith
+repeated-fits (suc n) k zero l = l
+repeated-fits (suc n) k (suc j) l = repeated-fits n k j l
+
+pattern-fits : (k : ℕ) → k < 256 → Bytes (pattern k)
+unfolding pattern bytesOf
+pattern-fits k l zero = omega arith
+pattern-fits k l (suc zero) = omega arith
+pattern-fits k l (suc (suc j)) = repeated-fits 22 k j l
+
+added-fits : (k : ℕ) (s : List ℕ) → k < 256 → Bytes (drop (length s) (pattern k))
+added-fits k s l i = rw (getD-drop (length s) (pattern k) i 0) (pattern-fits k l (length s + i))
 
 module _ (k : ℕ) (s : List ℕ) where
   completed-size : longest ≤ length (completed k s)
@@ -188,26 +203,26 @@ module _ (s t : List ℕ) (ok : isRead (s ++ t) ≡ true) where
 -- ---- fewer bytes than the map has
 
 -- the first eight bits of a map
-eight : (k : Kind) (a b c d e f g h : ℕ) (vs : List ℕ)
-    → mapOf (standing k 0 (a ∷ b ∷ c ∷ d ∷ e ∷ f ∷ g ∷ h ∷ vs))
-    ≡ cond (stands k 0 a) 1 0 + 2 * (cond (stands k 1 b) 1 0 + 2 * (cond (stands k 2 c) 1 0 + 2 * (cond (stands k 3 d) 1 0
-    + 2 * (cond (stands k 4 e) 1 0 + 2 * (cond (stands k 5 f) 1 0 + 2 * (cond (stands k 6 g) 1 0 + 2 * (cond (stands k 7 h) 1 0 + 2 * mapOf (standing k 8 vs))))))))
-unfolding mapOf standing
-eight k a b c d e f g h vs = refl
+eight : (k : Kind) (s : List ℕ)
+    → (let bitOf : ℕ → ℕ = λ i. cond (stands k i (getD (fieldsIn s) i 0)) 1 0 in
+    mapOf (standing k 0 (fieldsIn s))
+    ≡ bitOf 0 + 2 * (bitOf 1 + 2 * (bitOf 2 + 2 * (bitOf 3 + 2 * (bitOf 4 + 2 * (bitOf 5 + 2 * (bitOf 6 + 2 * (bitOf 7 + 2 * mapOf (standing k 8 (drop 8 (fieldsIn s)))))))))))
+unfolding fieldsIn fieldsAt widths mapOf standing
+eight k s = refl
 
--- the bytes of the pattern up to any position are read with the rest of it
+-- the first byte of a kind's map is that of its pattern
 abbrev Begins : ℕ → Type 0
-Begins k = (a b c d e f g h : ℕ) (vs : List ℕ) (x m : ℕ) → x < 256 → x + 256 * m ≡ mapFor k (a ∷ b ∷ c ∷ d ∷ e ∷ f ∷ g ∷ h ∷ vs) → isRead (completed k (x ∷ [])) ≡ true
+Begins k = (s : List ℕ) (x m : ℕ) → x < 256 → x + 256 * m ≡ mapFor k (fieldsIn s) → isRead (completed k (x ∷ [])) ≡ true
 
 begins : (k : ℕ) → isKind k ≡ true → Begins k
 unfolding stands kinds has
 begins =
     by-kind Begins
-    (λ a b c d e f g h vs x m l q. let n : x ≡ 19 = omega (arith, q ∙ eight (kindAt 1) a b c d e f g h vs) in rw n read-1)
-    (λ a b c d e f g h vs x m l q. let n : x ≡ 35 = omega (arith, q ∙ eight (kindAt 2) a b c d e f g h vs) in rw n read-2)
-    (λ a b c d e f g h vs x m l q. let n : x ≡ 87 = omega (arith, q ∙ eight (kindAt 3) a b c d e f g h vs) in rw n read-3)
-    (λ a b c d e f g h vs x m l q. let n : x ≡ 143 = omega (arith, q ∙ eight (kindAt 4) a b c d e f g h vs) in rw n read-4)
-    (λ a b c d e f g h vs x m l q. let n : x ≡ 83 = omega (arith, q ∙ eight (kindAt 5) a b c d e f g h vs) in rw n read-5)
+    (λ s x m l q. let n : x ≡ 19 = omega (arith, q ∙ eight (kindAt 1) s) in rw n read-1)
+    (λ s x m l q. let n : x ≡ 35 = omega (arith, q ∙ eight (kindAt 2) s) in rw n read-2)
+    (λ s x m l q. let n : x ≡ 87 = omega (arith, q ∙ eight (kindAt 3) s) in rw n read-3)
+    (λ s x m l q. let n : x ≡ 143 = omega (arith, q ∙ eight (kindAt 4) s) in rw n read-4)
+    (λ s x m l q. let n : x ≡ 83 = omega (arith, q ∙ eight (kindAt 5) s) in rw n read-5)
 
 -- ---- what can be read
 
@@ -232,11 +247,11 @@ open-can s e = not-false (canBeRead s) (or-right (isRead s) (not (canBeRead s)) 
 
 -- bytes that some that follow make a record of
 can-be : (s t : List ℕ) → Bytes s → isRead (s ++ t) ≡ true → canBeRead s ≡ true
-unfolding fieldsIn fieldsAt widths numberAt
+unfolding numberAt
 can-be [] t fit ok = open-can [] nothing-open
 can-be (x ∷ []) t fit ok =
     let f = fine (x ∷ []) t ok in
-    any-kind (x ∷ []) (kind (x ∷ []) t ok) (f .kind) (begins (kind (x ∷ []) t ok) (f .kind) _ _ _ _ _ _ _ _ _ x _ (fit 0) (f .map))
+    any-kind (x ∷ []) (kind (x ∷ []) t ok) (f .kind) (begins (kind (x ∷ []) t ok) (f .kind) (x ∷ t) x _ (fit 0) (f .map))
 can-be (x ∷ y ∷ s) t fit ok = any-kind (x ∷ y ∷ s) (kind (x ∷ y ∷ s) t ok) (fine (x ∷ y ∷ s) t ok .kind) (two-made (x ∷ y ∷ s) t ok (omega arith))
 
 -- ---- the two claims
@@ -257,17 +272,17 @@ unsettled-open s e =
     let can = open-can s e in
     first refused (isRead (completed 1 s)) refl (isRead (completed 2 s)) refl (isRead (completed 3 s)) refl (isRead (completed 4 s)) refl can
   where
-    with-kind : (k : ℕ) → isRead s ≡ false → isRead (completed k s) ≡ true → Open s
-    with-kind k r h = record { refused = r; more = drop (length s) (pattern k); accepted = h }
+    with-kind : (k : ℕ) → k < 256 → isRead s ≡ false → isRead (completed k s) ≡ true → Open s
+    with-kind k l r h = record { refused = r; more = drop (length s) (pattern k); bytes = added-fits k s l; accepted = h }
 
     first : isRead s ≡ false → (a : Bool) → isRead (completed 1 s) ≡ a → (b : Bool) → isRead (completed 2 s) ≡ b → (c : Bool) → isRead (completed 3 s) ≡ c
         → (d : Bool) → isRead (completed 4 s) ≡ d → (isRead (completed 1 s) || isRead (completed 2 s) || isRead (completed 3 s) || isRead (completed 4 s) || isRead (completed 5 s)) ≡ true
         → Open s
-    first r true p b q c u d v h = with-kind 1 r p
-    first r false p true q c u d v h = with-kind 2 r q
-    first r false p false q true u d v h = with-kind 3 r u
-    first r false p false q false u true v h = with-kind 4 r v
-    first r false p false q false u false v h = with-kind 5 r (rw (p, q, u, v) at h)
+    first r true p b q c u d v h = with-kind 1 (omega arith) r p
+    first r false p true q c u d v h = with-kind 2 (omega arith) r q
+    first r false p false q true u d v h = with-kind 3 (omega arith) r u
+    first r false p false q false u true v h = with-kind 4 (omega arith) r v
+    first r false p false q false u false v h = with-kind 5 (omega arith) r (rw (p, q, u, v) at h)
 
 -- ---- what follows
 

@@ -7,7 +7,7 @@ use mathlib.Core.List.{List, [], _∷_, _++_}
 use lib.Dec.{eqb, ltb}
 use lib.ListN.{length, getD, drop, replicate}
 use Rattle.rules.specs.Book.{Book}
-use Rattle.rules.specs.Records.{mapFor, bytesOf, RecordReply, reading}
+use Rattle.rules.specs.Records.{mapFor, bytesOf, reading}
 use Rattle.lines.specs.Text.{lineOf}
 use Rattle.stream.specs.Records.{atFront}
 
@@ -48,6 +48,7 @@ SettledStays = (s t : List ℕ) → Bytes s → settled s ≡ true → reading (
 pub record Open (s : List ℕ) : Type 0 where
   pub refused : isRead s ≡ false
   pub more : List ℕ
+  pub bytes : Bytes more
   pub accepted : isRead (s ++ more) ≡ true
 
 abbrev pub UnsettledOpen : Type 0

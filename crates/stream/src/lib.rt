@@ -14,9 +14,9 @@ use rules::Answer;
 use rules::CallRecord;
 
 // The answer to the record at the front of bytes, and the record's length; 0 where it can't be read.
-pub struct Taken {
-    pub answer: Answer,
-    pub length: usize,
+struct Taken {
+    answer: Answer,
+    length: usize,
 }
 
 // The unread bytes stand in the input's buffer from `from` up to `to`, the collected lines in the first `filled` bytes of the text.
@@ -50,7 +50,7 @@ pub fn open_book(book: &mut Book)
 }
 
 // Makes the call of a record. A record of no kind is refused.
-pub fn answer_record(book: &mut Book, call: CallRecord) -> Answer
+fn answer_record(book: &mut Book, call: CallRecord) -> Answer
     ensures { λ r. ⌜ AnswersRecord (now (book .entry)) call r (now (book .exit)) ⌝ }
 {
     let kind = call.kind;
@@ -75,7 +75,7 @@ pub fn answer_record(book: &mut Book, call: CallRecord) -> Answer
 }
 
 // Reads the record at the front of the bytes, and makes its call. The reader gives no kind where it refuses.
-pub fn take_record(book: &mut Book, bytes: &[u8]) -> Taken
+fn take_record(book: &mut Book, bytes: &[u8]) -> Taken
     ensures { λ r. ⌜ Takes (now (book .entry)) (now (bytes .entry)) r (now (book .exit)) ⌝ }
 {
     let read = record::read(bytes);
@@ -130,7 +130,7 @@ fn can_be_read(bytes: &[u8]) -> bool
 }
 
 // The answer is known, whatever follows the bytes.
-pub fn is_settled(bytes: &[u8]) -> bool
+fn is_settled(bytes: &[u8]) -> bool
     ensures { λ r. ⌜ r ≡ settled (now (bytes .entry)) ⌝ }
 {
     if bytes.len() >= 24 {

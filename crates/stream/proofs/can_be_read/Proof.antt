@@ -2,7 +2,6 @@
 -- Assumes nothing.
 use mathlib.Core.Path.{refl, sym, _∙_}
 use borrow.Author.Needs.{needs}
-use Rattle.stream.specs.Input.{completed, pattern}
 use Rattle.stream.proofs.Patterns.{as-1, as-2, as-3, as-4, as-5}
 use Rattle.stream.proofs.Settled.{any-kind, last-kind}
 use Rattle.stream.proofs.can_be_read.Statement.{statement}
