@@ -19,11 +19,11 @@ use Rattle.stream.specs.declared.Run.{Run}
 use Rattle.stream.specs.declared.Next.the-variants.{Answer, Write, Read}
 use Rattle.stream.specs.Records.{Effect, startBook, atFront}
 use Rattle.stream.specs.Input.{Bytes, answerable, following, linesIn, linesOf}
-use Rattle.stream.specs.Running.{unread, collected, answeredRun, AnswersNext, wroteRun, Fronted, receivedRun, State, nextIn, Reaches, begins, answers, writes, reads, WritesAll, WritesAtOnce}
+use Rattle.stream.specs.Running.{unread, collected, answeredRun, AnswersNext, wroteRun, Fronted, receivedRun, State, nextIn, Reaches, begins, answers, writes, reads, WritesAll, WritesAtOnce, WaitsWhereOpen}
 use Rattle.stream.proofs.Taking.{front-read, front-refused}
 use Rattle.stream.proofs.Patterns.{nothing-open}
 use Rattle.stream.proofs.Front.{end-least}
-use Rattle.stream.proofs.Settled.{settled-stays, settled-more}
+use Rattle.stream.proofs.Settled.{settled-stays, unsettled-open, settled-more}
 use Rattle.stream.proofs.Nexts.{answering, reading-on, ending}
 
 -- ---- the lines of an input
@@ -191,6 +191,12 @@ writes-at-once input written st s t =
     let h = reading-on (unread (st .buffer) (st .run)) (st .run) t in
     let none = lines-none false (bookOf (st .cells)) (st .run .position) (unread (st .buffer) (st .run)) (rw (h .open-input) at (h .unknown)) in
     sym (rw (append-nil input, append-nil (unread (st .buffer) (st .run)), h .empty, h .going, none, append-nil written) at (kept s false [] (λ q. absurd (true≢false (sym q ∙ h .open-input)))))
+
+pub waits-where-open : WaitsWhereOpen
+unfolding answerable
+waits-where-open st t =
+    let h = reading-on (unread (st .buffer) (st .run)) (st .run) t in
+    unsettled-open (unread (st .buffer) (st .run)) (rw (h .open-input) at (h .unknown))
 
 -- nothing is left where the program is done, or no byte is
 none-left : (st : State) (rest : List ℕ) → (st .run .ended ≡ true → rest ≡ [])

@@ -37,6 +37,7 @@ canBeRead s = isRead (completed 1 s) || isRead (completed 2 s) || isRead (comple
 unfoldable pub settled : List ℕ → Bool
 settled s = isRead s || not (canBeRead s)
 
+-- each is a byte
 abbrev pub Bytes : List ℕ → Type 0
 Bytes s = (i : ℕ) → getD s i 0 < 256
 
@@ -44,13 +45,14 @@ Bytes s = (i : ℕ) → getD s i 0 < 256
 abbrev pub SettledStays : Type 0
 SettledStays = (s t : List ℕ) → Bytes s → settled s ≡ true → reading (s ++ t) ≡ reading s
 
--- where it isn't, the bytes alone are refused, and with some that follow they are read
+-- the bytes alone are refused, and with some that follow they are read
 pub record Open (s : List ℕ) : Type 0 where
   pub refused : isRead s ≡ false
   pub more : List ℕ
   pub bytes : Bytes more
   pub accepted : isRead (s ++ more) ≡ true
 
+-- so it is where it isn't settled
 abbrev pub UnsettledOpen : Type 0
 UnsettledOpen = (s : List ℕ) → settled s ≡ false → Open s
 
@@ -73,10 +75,10 @@ linesIn (suc n) ended b k s =
     ++ cond (eqb (atFront b s .reply .number) 1) [] (linesIn n ended (atFront b s .book) (following k) (drop (atFront b s .length) s)))
     []
 
--- each line takes a byte at least
+-- all of them: each takes a byte at least
 abbrev pub linesOf : Bool → Book → ℕ → List ℕ → List ℕ
 linesOf ended b k s = linesIn (length s) ended b k s
 
--- those of an input that has ended
+-- those of a whole input
 abbrev pub printed : Book → ℕ → List ℕ → List ℕ
 printed b k s = linesOf true b k s

@@ -12,7 +12,7 @@ use Rattle.stream.specs.declared.Run.{Run}
 use Rattle.stream.specs.declared.Next.{Next}
 use Rattle.stream.specs.declared.Next.the-variants.{Answer, Write, Read, End}
 use Rattle.stream.specs.Records.{Effect, startBook, atFront}
-use Rattle.stream.specs.Input.{Bytes, answerable, following, linesOf, printed}
+use Rattle.stream.specs.Input.{Bytes, Open, answerable, following, linesOf, printed}
 
 -- ---- the state
 
@@ -24,10 +24,11 @@ unread buffer run = take (run .to - run .from) (drop (run .from) buffer)
 abbrev pub collected : List ℕ → Run → List ℕ
 collected text run = take (run .filled) text
 
--- bytes of the text, and of the longest line
+-- how many bytes of lines are collected at most
 abbrev pub textSize : ℕ
 textSize = 4096
 
+-- no line has more bytes
 abbrev pub lineSize : ℕ
 lineSize = 84
 
@@ -49,6 +50,7 @@ nextOf bytes run = cond (ready bytes run) Answer (cond (ltb 0 (run .filled)) Wri
 
 -- ---- the steps
 
+-- nothing is read, and the first position is 1
 abbrev pub startRun : Run
 startRun = record { from = 0; to = 0; position = 1; ended = false; done = false; filled = 0 }
 
@@ -77,6 +79,7 @@ abbrev pub wroteRun : Run → Bool → Run
 wroteRun run written =
     record { from = run .from; to = run .to; position = run .position; ended = run .ended; done = run .done || not written; filled = 0 }
 
+-- the same unread bytes, from the front of the buffer on
 abbrev pub frontRun : Run → Run
 frontRun run =
     record { from = 0; to = run .to - run .from; position = run .position; ended = run .ended; done = run .done; filled = run .filled }
@@ -101,6 +104,7 @@ pub record State : Type 0 where
   pub text : List ℕ
   pub run : Run
 
+-- what comes next there
 abbrev pub nextIn : State → Next
 nextIn st = nextOf (unread (st .buffer) (st .run)) (st .run)
 
@@ -126,6 +130,10 @@ WritesAll =
 -- before each read, the lines of all records that are settled are written, and no others
 abbrev pub WritesAtOnce : Type 0
 WritesAtOnce = (input written : List ℕ) (st : State) → Reaches input written st → nextIn st ≡ Read → written ≡ linesOf false startBook 1 input
+
+-- and the bytes that are left may still become a record
+abbrev pub WaitsWhereOpen : Type 0
+WaitsWhereOpen = (st : State) → nextIn st ≡ Read → Open (unread (st .buffer) (st .run))
 
 -- ---- the example of document 01
 
