@@ -88,10 +88,10 @@ module _ (s t : List ℕ) (whole : endIn s ≤ length s) where
 -- ---- read or refused
 
 pub accepts : (s : List ℕ) → isRead s ≡ true → readerRefuses s 1 ≡ false
-accepts s e = reader-accepts s (eqb-true (reading s .number) 0 e)
+accepts s e = reader-accepts s (eqb-true (reading s .reply .number) 0 e)
 
 pub is-read-by : (s : List ℕ) (t : Bool) → readerRefuses s 1 ≡ t → isRead s ≡ eqb (cond t 1 0) 0
-is-read-by s t e = ap (λ (r : RecordReply). eqb (r .number) 0) (reading-by s t e)
+is-read-by s t e = ap (λ (r : RecordReply). eqb (r .reply .number) 0) (reading-by s t e)
 
 pub is-read : (s : List ℕ) → readerRefuses s 1 ≡ false → isRead s ≡ true
 is-read s e = is-read-by s false e

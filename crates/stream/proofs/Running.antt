@@ -33,10 +33,10 @@ front-size : (b : Book) (s : List ℕ) → (eqb (atFront b s .reply .number) 1 �
 front-size b s = go (readerRefuses s 1) refl
   where
     go : (t : Bool) → readerRefuses s 1 ≡ t → (eqb (atFront b s .reply .number) 1 ≡ false → 2 ≤ atFront b s .length) × (atFront b s .length ≤ length s)
-    go true e = rw (front-refused b s (ap (λ (x : RecordReply). x .number) (reading-by s true e))) (λ h. absurd (true≢false h), omega arith)
+    go true e = rw (front-refused b s (ap (λ (x : RecordReply). x .reply) (reading-by s true e))) (λ h. absurd (true≢false h), omega arith)
     go false e =
         let rd = reading-by s false e in
-        rw (front-read b s (ap (λ (x : RecordReply). x .number) rd), rd) (λ h. end-least s, readable s e .ends)
+        rw (front-read b s (ap (λ (x : RecordReply). x .reply .number) rd), rd) (λ h. end-least s, readable s e .ends)
 
 answerable-some : (e : Bool) (s : List ℕ) → answerable e s ≡ true → 1 ≤ length s
 unfolding answerable

@@ -294,7 +294,7 @@ long-settled s l = go (settled s) refl
     go true e = refl
     go false e =
         let o = unsettled-open s e in
-        sym (o .refused) ∙ sym (ap (λ (r : RecordReply). eqb (r .number) 0) (whole-same s (o .more) (omega (arith, end-longest s)))) ∙ o .accepted
+        sym (o .refused) ∙ sym (ap (λ (r : RecordReply). eqb (r .reply .number) 0) (whole-same s (o .more) (omega (arith, end-longest s)))) ∙ o .accepted
 
 pub unsettled-few : (s : List ℕ) → settled s ≡ false → length s < longest
 unsettled-few s e = go (ltb (length s) longest) refl
@@ -312,4 +312,4 @@ settled-more s t fit e = go (settled (s ++ t)) refl
     go false h =
         let o = unsettled-open (s ++ t) h in
         let same : reading ((s ++ t) ++ o .more) ≡ reading (s ++ t) = rw (append-assoc s t (o .more)) (settled-stays s (t ++ o .more) fit e ∙ sym (settled-stays s t fit e)) in
-        sym (o .refused) ∙ sym (ap (λ (r : RecordReply). eqb (r .number) 0) same) ∙ o .accepted
+        sym (o .refused) ∙ sym (ap (λ (r : RecordReply). eqb (r .reply .number) 0) same) ∙ o .accepted

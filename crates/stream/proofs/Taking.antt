@@ -19,12 +19,12 @@ use Rattle.record.specs.declared.RecordRead.{RecordRead}
 use Rattle.record.specs.Promises.{Reads}
 use Rattle.stream.specs.Records.{callMade, AnswersRecord, atFront, Takes}
 
-pub front-read : (b : Book) (s : List ℕ) → reading s .number ≡ 0
+pub front-read : (b : Book) (s : List ℕ) → reading s .reply .number ≡ 0
     → atFront b s ≡ record { reply = applied b (callMade (reading s .call)) .reply; book = applied b (callMade (reading s .call)) .book; length = reading s .length }
 unfolding atFront
 front-read b s e = rw e
 
-pub front-refused : (b : Book) (s : List ℕ) → reading s .number ≡ 1 → atFront b s ≡ record { reply = noDetails 1; book = b; length = 0 }
+pub front-refused : (b : Book) (s : List ℕ) → reading s .reply ≡ noDetails 1 → atFront b s ≡ record { reply = noDetails 1; book = b; length = 0 }
 unfolding atFront
 front-refused b s e = rw e refl
 
@@ -41,7 +41,7 @@ module _ (b s : List ℕ) (r : RecordRead) (a : Answer) (b′ : List ℕ) (p : R
   when-read e =
       let rd = reading-by s false e in
       let k = ap (λ (x : CallRecord). isKind (x .kind)) (same .1 ∙ ap (λ (x : RecordReply). x .call) rd) ∙ readable s e .kind in
-      let t = front-read (bookOf b) s (ap (λ (x : RecordReply). x .number) rd) in
+      let t = front-read (bookOf b) s (ap (λ (x : RecordReply). x .reply .number) rd) in
       let h = w .made k in
       record {
         reply = rw (t, ← same .1) (h .reply);
@@ -57,7 +57,7 @@ module _ (b s : List ℕ) (r : RecordRead) (a : Answer) (b′ : List ℕ) (p : R
   unfolding noCall callOf
   when-refused e =
       let rd = reading-by s true e in
-      let t = front-refused (bookOf b) s (ap (λ (x : RecordReply). x .number) rd) in
+      let t = front-refused (bookOf b) s (ap (λ (x : RecordReply). x .reply) rd) in
       let h = w .none (ap (λ (x : CallRecord). isKind (x .kind)) (same .1 ∙ ap (λ (x : RecordReply). x .call) rd)) in
       record {
         reply = rw t (ap said (h .0));

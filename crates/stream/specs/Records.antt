@@ -7,7 +7,7 @@ use mathlib.Core.List.{List, [], _∷_}
 use lib.Dec.{eqb}
 use lib.ListN.{length, getD}
 use Rattle.rules.specs.Book.{Book}
-use Rattle.rules.specs.Calls.{Call, AddDirection, AddParty, OfferDirection, OfferProfile, Bid, Nominate, Match, Reply, isGrant, noDetails}
+use Rattle.rules.specs.Calls.{Call, AddDirection, AddParty, OfferDirection, OfferProfile, Bid, Nominate, Match, Reply, isGrant}
 use Rattle.rules.specs.Said.{said}
 use Rattle.rules.specs.Run.{applied, run}
 use Rattle.rules.specs.Opening.{opening}
@@ -61,8 +61,8 @@ pub record Effect : Type 0 where
 unfoldable pub atFront : Book → List ℕ → Effect
 atFront b s =
     let c : Call = callMade (reading s .call) in
-    cond (eqb (reading s .number) 0) (record { reply = applied b c .reply; book = applied b c .book; length = reading s .length })
-    (record { reply = noDetails (reading s .number); book = b; length = 0 })
+    cond (eqb (reading s .reply .number) 0) (record { reply = applied b c .reply; book = applied b c .book; length = reading s .length })
+    (record { reply = reading s .reply; book = b; length = 0 })
 
 -- a call record is taken from the front of the bytes
 pub record Takes (before bytes : List ℕ) (r : Taken) (after : List ℕ) : Type 0 where

@@ -9,7 +9,7 @@ use Rattle.stream.proofs.is_read.Statement.{statement}
 use Rattle.stream.proofs.is_read.Tie as tie
 
 returns : tie.Need-returns
-returns c = ap (λ (a : Reply). eqb (a .number) 0) (c .before .numbers .ensures) ∙ ap (λ (r : RecordReply). eqb (r .number) 0) (c .before .before .read .ensures .reply)
+returns c = ap (λ (a : Reply). eqb (a .number) 0) (c .before .numbers .ensures) ∙ ap (λ (r : RecordReply). eqb (r .reply .number) 0) (c .before .before .read .ensures .reply)
 
 pub is-read-spec : {M : Type 1} → statement M
 is-read-spec = tie.close (tie.spec (λ c κs. search needs) (λ c κs. search needs) returns)
