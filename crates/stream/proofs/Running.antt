@@ -38,26 +38,23 @@ front-size b s = go (readerRefuses s 1) refl
         let rd = reading-by s false e in
         rw (front-read b s (ap (λ (x : RecordReply). x .reply .number) rd), rd) (λ h. end-least s, readable s e .ends)
 
-answerable-some : (e : Bool) (s : List ℕ) → answerable e s ≡ true → 1 ≤ length s
+answerable-none : (e : Bool) → answerable e [] ≡ false
 unfolding answerable
+answerable-none true = refl
+answerable-none false = nothing-open
+
+answerable-some : (e : Bool) (s : List ℕ) → answerable e s ≡ true → 1 ≤ length s
+answerable-some e [] h = absurd (false≢true (sym (answerable-none e) ∙ h))
 answerable-some e (x ∷ s) h = omega arith
-answerable-some true [] h = absurd (false≢true h)
-answerable-some false [] h = absurd (false≢true (sym nothing-open ∙ h))
 
 -- more turns than bytes add nothing
 lines-more : (n m : ℕ) (e : Bool) (b : Book) (k : ℕ) (s : List ℕ) → length s ≤ n → length s ≤ m → linesIn n e b k s ≡ linesIn m e b k s
 unfolding linesIn
 lines-more zero zero e b k s l h = refl
-lines-more zero (suc m) e b k s l h = go (answerable e s) refl
-  where
-    go : (t : Bool) → answerable e s ≡ t → linesIn zero e b k s ≡ linesIn (suc m) e b k s
-    go true f = absurd (omega (arith, answerable-some e s f))
-    go false f = rw f
-lines-more (suc n) zero e b k s l h = go (answerable e s) refl
-  where
-    go : (t : Bool) → answerable e s ≡ t → linesIn (suc n) e b k s ≡ linesIn zero e b k s
-    go true f = absurd (omega (arith, answerable-some e s f))
-    go false f = rw f
+lines-more zero (suc m) e b k [] l h = rw (answerable-none e)
+lines-more zero (suc m) e b k (x ∷ s) l h = absurd (omega arith)
+lines-more (suc n) zero e b k [] l h = rw (answerable-none e)
+lines-more (suc n) zero e b k (x ∷ s) l h = absurd (omega arith)
 lines-more (suc n) (suc m) e b k s l h = go (answerable e s) refl (eqb (atFront b s .reply .number) 1) refl (λ p q. lines-more n m e (atFront b s .book) (following k) (drop (atFront b s .length) s) p q)
   where
     go : (t : Bool) → answerable e s ≡ t → (u : Bool) → eqb (atFront b s .reply .number) 1 ≡ u
