@@ -1,53 +1,56 @@
-// The pairs of one right as a lent slice of structs, and the sum over it of the lower sides in one hour of the session.
+// The pairs of one right as a lent slice of structs, and the sums over it of the lower sides, one for each hour of the session.
 ghost use mathlib.Core.Path.{_≡_};
-ghost use Prim.Native.Nat.{_<_, _≤_, _^_, min};
+ghost use Prim.Native.Nat.{_+_, _<_, _≤_, _^_};
 ghost use lib.ListN.{length, take};
-ghost use Rattle.totals.specs.Total.{lowerOf, totalLower};
+ghost use Rattle.rules.specs.Basics.{five};
+ghost use Rattle.totals.specs.Total.{Most, sumIn, totalLower, totals};
 
-// The nominations of an out party and an in party under a right.
+// A pair of a right: the lower of its two sides in each hour of the session.
 pub struct Pair {
-    pub right: u32,
-    pub out: u32,
-    pub into: u32,
-    pub out_mw: [u32; 5],
-    pub into_mw: [u32; 5],
+    pub lower: [u32; 5],
 }
 
-// The lower of two numbers.
-fn lesser(a: u32, b: u32) -> u32
-    ensures { λ r. ⌜ (r ≡ min a b) × (r < 2 ^ 32) ⌝ }
+// A sum with one value more.
+fn plus(sum: u64, lower: u32) -> u64
+    requires { ⌜ sum ≤ 2 ^ 63 ⌝ }
+    ensures { λ r. ⌜ (r ≡ sum + lower) × (lower ≤ 4294967295) ⌝ }
 {
-    if a < b { a } else { b }
+    sum + lower as u64
 }
 
-// The lower of the two sides in the hour at position `hour` of the session.
-pub fn lower(pair: Pair, hour: usize) -> u32
-    requires { ⌜ hour < 5 ⌝ }
-    ensures { λ r. ⌜ (r ≡ lowerOf hour pair) × (r < 2 ^ 32) ⌝ }
+// The five sums with one pair more.
+fn with_lower(sums: [u64; 5], pair: Pair) -> [u64; 5]
+    requires { ⌜ Most (2 ^ 63) sums ⌝ }
+    ensures { λ r. ⌜ (r ≡ five (sumIn sums pair)) × Most 4294967295 (pair .lower) ⌝ }
 {
-    let out = pair.out_mw[hour];
-    let into = pair.into_mw[hour];
-    lesser(out, into)
+    let lower = pair.lower;
+    [
+        plus(sums[0], lower[0]),
+        plus(sums[1], lower[1]),
+        plus(sums[2], lower[2]),
+        plus(sums[3], lower[3]),
+        plus(sums[4], lower[4]),
+    ]
 }
 
-// The sum of the lower sides over the pairs, proved by hand.
-pub fn total_lower(list: &[Pair], hour: usize) -> u64
-    requires { ⌜ (length (now list) ≤ 512) × (hour < 5) ⌝ }
-    ensures { λ r. ⌜ r ≡ totalLower hour (now (list .entry)) ⌝ }
+// The sums of the lower sides over the pairs, proved by hand.
+pub fn total_lower(list: &[Pair]) -> [u64; 5]
+    requires { ⌜ length (now list) ≤ 512 ⌝ }
+    ensures { λ r. ⌜ r ≡ totals (now (list .entry)) ⌝ }
 {
-    let mut sum: u64 = 0;
+    let mut sums = [0u64; 5];
     let mut i: usize = 0;
     while i < list.len() {
-        sum = sum + lower(list[i], hour) as u64;
+        sums = with_lower(sums, list[i]);
         i = i + 1;
     }
-    sum
+    sums
 }
 
-// The sum over the first `count` pairs, proved by hand: its parameters are plain, so its callers need no walk.
-pub fn total_of(list: [Pair; 512], count: usize, hour: usize) -> u64
-    requires { ⌜ (count ≤ 512) × (hour < 5) ⌝ }
-    ensures { λ r. ⌜ r ≡ totalLower hour (take count list) ⌝ }
+// The sums over the first `count` pairs, proved by hand: its parameters are plain, so its callers need no walk.
+pub fn total_of(list: [Pair; 512], count: usize) -> [u64; 5]
+    requires { ⌜ count ≤ 512 ⌝ }
+    ensures { λ r. ⌜ r ≡ totals (take count list) ⌝ }
 {
-    total_lower(&list[..count], hour)
+    total_lower(&list[..count])
 }

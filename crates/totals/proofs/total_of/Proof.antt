@@ -28,7 +28,7 @@ use sound.WpLaws.{FmC, fmOf, WpFn-mono}
 use denote.RattleType.{RattleType, owns}
 use denote.Laws.{Is, shows}
 use denote.Memory.{pointee}
-use denote.Plain.{uint-vals, uint-tells, uint-lawful, uint-makes}
+use denote.Plain.{uint-vals, uint-tells, uint-lawful}
 use denote.Builtin.{u64, usize}
 use denote.Array.{Array, array-vals, array-tells, array-lawful}
 use denote.Ref.{RefT}
@@ -45,7 +45,7 @@ use denote.Triple.Table.{entered, cited}
 use denote.Triple.Walked.{says, needs, Stays, stay-dropped, walkOf, goes-dropped, Walks, ends-at, walked, walk-meets}
 use denote.Exit.{yes}
 use Rattle.totals.specs.declared.Pair.{Pair}
-use Rattle.totals.specs.Total.{totalLower}
+use Rattle.totals.specs.Total.{totals}
 use Rattle.totals.proofs.Prefix.{Front, Others, lends-prefix, prefix-back}
 use Rattle.totals.proofs.Pair as T
 use Rattle.totals.proofs.Pair.Laws as T′
@@ -65,11 +65,15 @@ most = 512
 abbrev Pairs : RattleType
 Pairs = Array T.the-row most
 
+-- the five sums
+abbrev Sums : RattleType
+Sums = Array u64 5
+
 abbrev vals : Pair → List Val
 vals = LL.vals T.the-type T′.the-laws
 
 abbrev stayed : Stays (total-of.ended .signature .params) (total-of.ended .kept)
-stayed = (stay-dropped (plain (λ _. Pairs)) yes, (stay-dropped (plain (λ _. usize)) yes, (stay-dropped (plain (λ _. usize)) yes, tt)))
+stayed = (stay-dropped (plain (λ _. Pairs)) yes, (stay-dropped (plain (λ _. usize)) yes, tt))
 
 -- the types of the locals that hold the slice
 abbrev slice : Ty
@@ -80,7 +84,7 @@ module _ {M : Type 1} (𝓤 : URA M) (H : Heap 𝓤) (A : Atoms 𝓤) (mem : Mem
   abbrev Total : Contract 𝓤
   Total = tripleOf 𝓤 H A total.signature (total.spec 𝓤 H A mem run)
 
-module _ {M : Type 1} (𝓤 : URA M) (H : Heap 𝓤) (A : Atoms 𝓤) (W : Given 𝓤 H A) (mem : Memory → SProp 𝓤) (run : Routine → Fun 𝓤) (xs : List Pair) (k h : ℕ) (long : length xs ≡ most) (few : k ≤ most) (in-day : h < 5) where
+module _ {M : Type 1} (𝓤 : URA M) (H : Heap 𝓤) (A : Atoms 𝓤) (W : Given 𝓤 H A) (mem : Memory → SProp 𝓤) (run : Routine → Fun 𝓤) (xs : List Pair) (k : ℕ) (long : length xs ≡ most) (few : k ≤ most) where
   abbrev part : List Pair
   part = take k xs
 
@@ -94,16 +98,16 @@ module _ {M : Type 1} (𝓤 : URA M) (H : Heap 𝓤) (A : Atoms 𝓤) (W : Given
   room = let e : length part ≡ k = part-long in (omega arith, omega arith)
 
   abbrev at : Vals total-of.signature tt
-  at = (mach ∷ [], (vint w64 k ∷ [], (vint w64 h ∷ [], tt)))
+  at = (mach ∷ [], (vint w64 k ∷ [], tt))
 
   abbrev Post : Val → SProp 𝓤
-  Post = walkOf 𝓤 H A total-of.ended stayed (total-of.clauses 𝓤 H A mem run) .post ((tt, tt, tt, (xs, (k, (h, tt))), at), tt)
+  Post = walkOf 𝓤 H A total-of.ended stayed (total-of.clauses 𝓤 H A mem run) .post ((tt, tt, tt, (xs, (k, tt)), at), tt)
 
-  exits : (r : ℕ) (u : Val) → r ≡ totalLower h part → ent 𝓤 (sem 𝓤 H A (u64 .own r (u ∷ []))) (Post u)
+  exits : (r : List ℕ) (u : Val) → r ≡ totals part → ent 𝓤 (sem 𝓤 H A (Sums .own r (u ∷ []))) (Post u)
   exits r u e =
-      qed W (‵ (u64 .own r (u ∷ [])) ∷ []) ∵
-      suffices ! _ (ends-at 𝓤 H A total-of.ended stayed (total-of.clauses 𝓤 H A mem run) W ((tt, tt, tt, (xs, (k, (h, tt))), at), tt) u r (tt, (tt, (tt, tt))) (tt, (tt, (tt, tt)))) $ says ! e $
-      nothing ! $ nothing ! $ fjoin ! $ nothing ! $ fjoin ! $ nothing ! $ fjoin ! $ nothing ! $ done !
+      qed W (‵ (Sums .own r (u ∷ [])) ∷ []) ∵
+      suffices ! _ (ends-at 𝓤 H A total-of.ended stayed (total-of.clauses 𝓤 H A mem run) W ((tt, tt, tt, (xs, (k, tt)), at), tt) u r (tt, (tt, tt)) (tt, (tt, tt))) $ says ! e $
+      nothing ! $ nothing ! $ fjoin ! $ nothing ! $ fjoin ! $ nothing ! $ done !
 
   -- the call of `total_lower`, at the slice at the address b, for the lifetime α, under the name γ
   abbrev lent : ℕ → GName → RefT (List Pair)
@@ -116,52 +120,52 @@ module _ {M : Type 1} (𝓤 : URA M) (H : Heap 𝓤) (A : Atoms 𝓤) (W : Given
   Own b α γ = ShrSlice (named 0) (α ∷ []) T.the-row .own (lent b γ) (v b ∷ [])
 
   abbrev to : ℕ → ℕ → GName → Total 𝓤 H A mem run .Ghost
-  to b α γ = (((α ∷ [], tt), (fullShare, tt), tt, (lent b γ, (h, tt)), (v b ∷ [], (vint w64 h ∷ [], tt))), tt)
+  to b α γ = (((α ∷ [], tt), (fullShare, tt), tt, (lent b γ, tt), (v b ∷ [], tt)), tt)
 
   goes : (b α : ℕ) (γ : GName) → ent 𝓤 (sep 𝓤 (A .lft (α ∷ []) fullShare) (sem 𝓤 H A (Own b α γ))) (Total 𝓤 H A mem run .pre (to b α γ))
-  goes b α γ = qed W (‵ (flft (α ∷ []) fullShare) ∷ ‵ (Own b α γ) ∷ []) ∵ says ! (let e : length part ≡ k = part-long in (omega arith, in-day)) $
-      nothing ! $ move ! (1 ∷ 0 ∷ []) $ join ! $ frame ! $ nothing ! $ owned ! usize (Is usize) (uint-makes 𝓤 H A W w64) h _ (refl, (omega arith)) $ fjoin ! $ move ! (1 ∷ 0 ∷ []) $ fjoin ! $ done !
+  goes b α γ = qed W (‵ (flft (α ∷ []) fullShare) ∷ ‵ (Own b α γ) ∷ []) ∵ says ! (let e : length part ≡ k = part-long in omega arith) $
+      nothing ! $ move ! (1 ∷ 0 ∷ []) $ join ! $ frame ! $ nothing ! $ move ! (1 ∷ 0 ∷ []) $ fjoin ! $ done !
 
-  told : (b α : ℕ) (γ : GName) (r : ℕ) → ent 𝓤 (ensured 𝓤 H A total.ended (total.clauses 𝓤 H A mem run) (α ∷ [], tt) (lent b γ, (h, tt)) tt r) (fact 𝓤 (r ≡ totalLower h part))
-  told b α γ r = exE 𝓤 _ (λ ws. snd∗ 𝓤 (sem 𝓤 H A (lasts total.ended (α ∷ [], tt) (lent b γ, (h, tt)) ws)) (fact 𝓤 (r ≡ totalLower h part)))
+  told : (b α : ℕ) (γ : GName) (r : List ℕ) → ent 𝓤 (ensured 𝓤 H A total.ended (total.clauses 𝓤 H A mem run) (α ∷ [], tt) (lent b γ, tt) tt r) (fact 𝓤 (r ≡ totals part))
+  told b α γ r = exE 𝓤 _ (λ ws. snd∗ 𝓤 (sem 𝓤 H A (lasts total.ended (α ∷ [], tt) (lent b γ, tt) ws)) (fact 𝓤 (r ≡ totals part)))
 
   module _ (C : Calls 𝓤 H) (Λ : Loops 𝓤 H) (fm : FmC 𝓤 H (W .laws) C) (known : Triple 𝓤 (C #totals·total-lower) (Total 𝓤 H A mem run)) where
-    walk : Holds (hasTy (tyArray T′.mir most) mach) × WT mach → k < 2 ^ 64 → ent 𝓤 (onEntry 𝓤 H A total-of.signature tt tt (xs, (k, (h, tt))) at) (WpFn 𝓤 H C Λ code.function (mach ∷ vint w64 k ∷ vint w64 h ∷ []) Post)
+    walk : Holds (hasTy (tyArray T′.mir most) mach) × WT mach → k < 2 ^ 64 → ent 𝓤 (onEntry 𝓤 H A total-of.signature tt tt (xs, (k, tt)) at) (WpFn 𝓤 H C Λ code.function (mach ∷ vint w64 k ∷ []) Post)
     walk wt fits =
-        qed W (‵ ftrue ∷ ‵ (owns (Pairs ∷ usize ∷ usize ∷ []) (xs, (k, (h, tt))) at) ∷ []) ∵ enter ! C Λ code.function (mach ∷ vint w64 k ∷ vint w64 h ∷ []) _ $
-        alloc1 ! (λ l₀. alloc1 ! (λ l₁. alloc1 ! (λ l₂. alloc1 ! (λ l₃. alloc1 ! (λ l₄. alloc1 ! (λ l₅. alloc1 ! (λ l₆. alloc0 ! $ params1 ! $
-        pass1 ! (init ! 10 refl wt) $ pass1 ! (init ! 8 refl (tt, record { fits = fits })) $ pass1 ! (init ! 6 refl (tt, record { fits = omega arith })) $ pass0 ! $
-        assigns ! (of-opd ! (load ! (from ! (stop !)) (look ! 10 refl))) (from ! (stop !)) (init ! 4 refl wt) $
+        qed W (‵ ftrue ∷ ‵ (owns (Pairs ∷ usize ∷ []) (xs, (k, tt)) at) ∷ []) ∵ enter ! C Λ code.function (mach ∷ vint w64 k ∷ []) _ $
+        alloc1 ! (λ l₀. alloc1 ! (λ l₁. alloc1 ! (λ l₂. alloc1 ! (λ l₃. alloc1 ! (λ l₄. alloc1 ! (λ l₅. alloc0 ! $ params1 ! $
+        pass1 ! (init ! 8 refl wt) $ pass1 ! (init ! 6 refl (tt, record { fits = fits })) $ pass0 ! $
+        assigns ! (of-opd ! (load ! (from ! (stop !)) (look ! 8 refl))) (from ! (stop !)) (init ! 4 refl wt) $
         assigns ! (addr ! (from ! (stop !))) (from ! (stop !)) (init ! 2 refl (tt, tt)) $
-        assigns ! (agg ! (and-then ! (load ! (from ! (stop !)) (look ! 2 refl)) (and-then ! (load ! (from ! (stop !)) (look ! 8 refl)) (no-more !)))) (from ! (stop !)) (init ! 0 refl (tt, (tt, (record { fits = fits }, tt)))) $
-        rewrite ! 0 (λ (m : ℕ). ‵ (fat fullShare slice l₆ 0 (sliceVal (l₄, 0) m))) (sym part-long) refl $
+        assigns ! (agg ! (and-then ! (load ! (from ! (stop !)) (look ! 2 refl)) (and-then ! (load ! (from ! (stop !)) (look ! 6 refl)) (no-more !)))) (from ! (stop !)) (init ! 0 refl (tt, (tt, (record { fits = fits }, tt)))) $
+        rewrite ! 0 (λ (m : ℕ). ‵ (fat fullShare slice l₅ 0 (sliceVal (l₃, 0) m))) (sym part-long) refl $
         -- the first k elements are lent, for a lifetime α of the call
-        move ! (15 ∷ []) $ fsplit ! $ move ! (6 ∷ 0 ∷ []) $ lft-new ! tt (λ α. move ! (1 ∷ 2 ∷ []) $
-        use2 W (later (some (λ (γ : GName). ‵ (Own l₄ α γ) ⊛ (‵ (flent (α ∷ []) (Front 𝓤 H A W T.the-row tt most k xs l₄)) ⊛ ‵ (Others 𝓤 H A W T.the-row tt most k xs l₄)))))
-        (lends-prefix 𝓤 H A W T.the-row tt most k xs l₄ (named 0) (α ∷ []) mach room) $ await ! tt $ pick ! (λ γ. split ! $
-        -- [what the slice owns; the lender's part and the other elements; the token; k's; _6; …; _5; …; that _4 dies; _3; …; _2; …; _1; …; room for _0; …]
-        move ! (2 ∷ 0 ∷ []) $ use2 W (raw (Total 𝓤 H A mem run .pre (to l₄ α γ))) (goes l₄ α γ) $
-        calls-at ! fm (Total 𝓤 H A mem run) known (to l₄ α γ) (and-then ! (load ! (from ! (stop !)) (look ! 3 refl)) (and-then ! (load ! (from ! (stop !)) (look ! 8 refl)) (no-more !))) (λ u.
-        use1 W (later (some (λ (r : ℕ). ((‵ (flft (α ∷ []) fullShare) ⊛ ‵ ftrue) ⊛ ‵ (u64 .own r (u ∷ []))) ⊛ raw (ensured 𝓤 H A total.ended (total.clauses 𝓤 H A mem run) (α ∷ [], tt) (lent l₄ γ, (h, tt)) tt r)))) (id⊢ 𝓤 _) $ await ! tt $ pick ! (λ r.
-        split ! $ move ! (1 ∷ []) $ use1 W (raw (fact 𝓤 (r ≡ totalLower h part))) (told l₄ α γ r) $ heard ! (r ≡ totalLower h part) (λ e. split ! $ move ! (1 ∷ []) $
-        peeks ! u64 (Is u64) (shows 𝓤 H A u64) r (u ∷ []) (λ is.
-        land ! (from ! (stop !)) (init ! 15 refl (uint-lawful 𝓤 H A W w64 .typed r _ is .0)) $
+        move ! (13 ∷ []) $ fsplit ! $ move ! (6 ∷ 0 ∷ []) $ lft-new ! tt (λ α. move ! (1 ∷ 2 ∷ []) $
+        use2 W (later (some (λ (γ : GName). ‵ (Own l₃ α γ) ⊛ (‵ (flent (α ∷ []) (Front 𝓤 H A W T.the-row tt most k xs l₃)) ⊛ ‵ (Others 𝓤 H A W T.the-row tt most k xs l₃)))))
+        (lends-prefix 𝓤 H A W T.the-row tt most k xs l₃ (named 0) (α ∷ []) mach room) $ await ! tt $ pick ! (λ γ. split ! $
+        -- [what the slice owns; the lender's part and the other elements; the token; k's; _5; …; _4; …; that _3 dies; _2; …; _1; …; room for _0; …]
+        move ! (2 ∷ 0 ∷ []) $ use2 W (raw (Total 𝓤 H A mem run .pre (to l₃ α γ))) (goes l₃ α γ) $
+        calls-at ! fm (Total 𝓤 H A mem run) known (to l₃ α γ) (and-then ! (load ! (from ! (stop !)) (look ! 3 refl)) (no-more !)) (λ u.
+        use1 W (later (some (λ (r : List ℕ). ((‵ (flft (α ∷ []) fullShare) ⊛ ‵ ftrue) ⊛ ‵ (Sums .own r (u ∷ []))) ⊛ raw (ensured 𝓤 H A total.ended (total.clauses 𝓤 H A mem run) (α ∷ [], tt) (lent l₃ γ, tt) tt r)))) (id⊢ 𝓤 _) $ await ! tt $ pick ! (λ r.
+        split ! $ move ! (1 ∷ []) $ use1 W (raw (fact 𝓤 (r ≡ totals part))) (told l₃ α γ r) $ heard ! (r ≡ totals part) (λ e. split ! $ move ! (1 ∷ []) $
+        peeks ! Sums (Is Sums) (shows 𝓤 H A Sums) r (u ∷ []) (λ is.
+        land ! (from ! (stop !)) (init ! 13 refl (array-lawful 𝓤 H A W u64 (uint-lawful 𝓤 H A W w64) 5 .typed r _ is .0)) $
         -- the lifetime is ended, and the array is whole again
         move ! (1 ∷ []) $ split ! $ lft-end ! tt $ move ! (3 ∷ []) $ split ! $ move ! (2 ∷ 0 ∷ 1 ∷ []) $
-        use3 W (later (‵ (froom (tyArray T′.mir most) l₄ 0))) (prefix-back 𝓤 H A W T.the-row tt most k xs l₄ (α ∷ []) long) $ await ! tt $
-        -- [room for _4; true; the result; k's; _6; …; _5; …; that _4 dies; _3; …; _2; …; _1; …; _0; …]
-        returns ! (look ! 15 refl) $ forget ! 4 refl $ forget ! 6 refl $ forget ! 9 refl $ forget ! 11 refl $ forget ! 13 refl $ forget ! 15 refl $
-        move ! (15 ∷ 16 ∷ []) $ free1 ! $ move ! (13 ∷ 14 ∷ []) $ free1 ! $ move ! (11 ∷ 12 ∷ []) $ free1 ! $ move ! (9 ∷ 10 ∷ []) $ free1 ! $ move ! (0 ∷ 8 ∷ []) $ free1 ! $ move ! (5 ∷ 6 ∷ []) $ free1 ! $ move ! (3 ∷ 4 ∷ []) $ free1 ! $ free0 ! $
-        keep ! (1 ∷ []) $ by ! (exits r u e))))))))))))))
+        use3 W (later (‵ (froom (tyArray T′.mir most) l₃ 0))) (prefix-back 𝓤 H A W T.the-row tt most k xs l₃ (α ∷ []) long) $ await ! tt $
+        -- [room for _3; true; the result; k's; _5; …; _4; …; that _3 dies; _2; …; _1; …; _0; …]
+        returns ! (look ! 13 refl) $ forget ! 4 refl $ forget ! 6 refl $ forget ! 9 refl $ forget ! 11 refl $ forget ! 13 refl $
+        move ! (13 ∷ 14 ∷ []) $ free1 ! $ move ! (11 ∷ 12 ∷ []) $ free1 ! $ move ! (9 ∷ 10 ∷ []) $ free1 ! $ move ! (0 ∷ 8 ∷ []) $ free1 ! $ move ! (5 ∷ 6 ∷ []) $ free1 ! $ move ! (3 ∷ 4 ∷ []) $ free1 ! $ free0 ! $
+        keep ! (1 ∷ []) $ by ! (exits r u e)))))))))))))
 
 module _ {M : Type 1} (𝓤 : URA M) (H : Heap 𝓤) (A : Atoms 𝓤) (W : Given 𝓤 H A) (mem : Memory → SProp 𝓤) (run : Routine → Fun 𝓤) (𝓣 : Tables 𝓤 H) (known : Triple 𝓤 (𝓣 .C #totals·total-lower) (Total 𝓤 H A mem run)) where
   total-of-walks : Walks 𝓤 H A total-of.ended stayed (WpFn 𝓤 H (𝓣 .C) (𝓣 .Λ) code.function) (total-of.clauses 𝓤 H A mem run)
-  total-of-walks = walked 𝓤 H A total-of.ended stayed (total-of.clauses 𝓤 H A mem run) (WpFn 𝓤 H (𝓣 .C) (𝓣 .Λ) code.function) (λ κs. (array-vals vals, (uint-vals w64, (uint-vals w64, tt)))) (λ κs. (array-tells T.the-row vals (LL.tells T.the-type T′.the-laws) most, (uint-tells w64, (uint-tells w64, tt))))
-      (λ κs qs bounds a g are. needs 𝓤 ((a .1 .0 ≤ most) × (a .1 .1 .0 < 5)) _ (λ pre. walk 𝓤 H A W mem run (a .0) (a .1 .0) (a .1 .1 .0) (are .0 .1 .0 .1) (pre .0) (pre .1) (𝓣 .C) (𝓣 .Λ) (fmOf 𝓤 H (W .laws) 𝓣) known
+  total-of-walks = walked 𝓤 H A total-of.ended stayed (total-of.clauses 𝓤 H A mem run) (WpFn 𝓤 H (𝓣 .C) (𝓣 .Λ) code.function) (λ κs. (array-vals vals, (uint-vals w64, tt))) (λ κs. (array-tells T.the-row vals (LL.tells T.the-type T′.the-laws) most, (uint-tells w64, tt)))
+      (λ κs qs bounds a g are. needs 𝓤 (a .1 .0 ≤ most) _ (λ pre. walk 𝓤 H A W mem run (a .0) (a .1 .0) (are .0 .1 .0 .1) pre (𝓣 .C) (𝓣 .Λ) (fmOf 𝓤 H (W .laws) 𝓣) known
       (array-lawful 𝓤 H A W T.the-row (LL.lawful T.the-type T′.the-laws 𝓤 H A W) most .typed (a .0) _ (are .0) .0) (are .1 .0 .1)))
 
   total-of-meets : Meets 𝓤 H A total-of.signature (WpFn 𝓤 H (𝓣 .C) (𝓣 .Λ) code.function) (total-of.spec 𝓤 H A mem run)
-  total-of-meets = walk-meets 𝓤 H A total-of.ended stayed W (goes-dropped 𝓤 H A W 0 (plain (λ _. Pairs)) yes (λ κs x f. refl), (goes-dropped 𝓤 H A W 0 (plain (λ _. usize)) yes (λ κs x f. refl), (goes-dropped 𝓤 H A W 0 (plain (λ _. usize)) yes (λ κs x f. refl), tt)))
+  total-of-meets = walk-meets 𝓤 H A total-of.ended stayed W (goes-dropped 𝓤 H A W 0 (plain (λ _. Pairs)) yes (λ κs x f. refl), (goes-dropped 𝓤 H A W 0 (plain (λ _. usize)) yes (λ κs x f. refl), tt))
       (total-of.clauses 𝓤 H A mem run) (WpFn 𝓤 H (𝓣 .C) (𝓣 .Λ) code.function) (WpFn-mono 𝓤 H (W .laws) 𝓣 code.function) total-of-walks
 
 pub total-of-spec : {M : Type 1} → stated.statement M
