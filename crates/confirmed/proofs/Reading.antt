@@ -17,7 +17,7 @@ use Rattle.cells.specs.Layout.{RIGHTS}
 use Rattle.cells.specs.View.{counted, rightAt, pairAt, bookOf}
 use Rattle.cells.proofs.Views.{right-count, right-at}
 use Rattle.answers.specs.Promises.{saidConfirmed}
-use Rattle.confirmed.specs.Work.{hourIn, refusedRead}
+use Rattle.confirmed.specs.Work.{hourOf, hourIn, refusedRead}
 
 -- the session that was looked up is that of the right
 pub session-is : (b : List ℕ) (r : ℕ) {t : Bool} {d s : ℕ} → t ≡ isMatched (bookOf b .matched) d s → d ≡ rightAt b r .direction → s ≡ rightAt b r .session
@@ -46,7 +46,7 @@ module _ (b : List ℕ) (r o i : ℕ) (l : r < counted b RIGHTS rightLimit) wher
 
   -- the hours of the pair that was found are those of the rules
   hours-are : (n k : ℕ) → pairOf r o i (bookOf b .pairs) ≡ pairAt b n → hourIn b r n k ≡ confirmedAt (bookOf b .rights) (bookOf b .pairs) k (pairOf r o i (bookOf b .pairs))
-  unfolding hourIn confirmedAt
+  unfolding hourOf confirmedAt
   hours-are n k e = rw (pair-right r o i (bookOf b .pairs), right-at b r l, e)
 
   pub granted-read : {t : Bool} (n : ℕ) → pairTaken r o i (bookOf b .pairs) ≡ true → pairOf r o i (bookOf b .pairs) ≡ pairAt b n
