@@ -5,7 +5,7 @@ ghost use Prim.Native.Nat.{_-_, _<_, _≤_};
 ghost use lib.ListN.{length};
 ghost use Rattle.cells.specs.View.{bookOf};
 ghost use Rattle.stream.specs.Records.{startBook};
-ghost use Rattle.stream.specs.Input.{longest};
+ghost use Rattle.dayrun_settled.specs.Settled.{longest};
 ghost use Rattle.stream.specs.Running.{textSize, unread, Fits, nextOf};
 ghost use Rattle.dayrun_loop.specs.Steps.{Wrote, ReadsMore, Goes, Ended};
 use cells::Book;

@@ -1,9 +1,6 @@
 pub mod Opening
 pub mod Made
 pub mod Taking
-pub mod Front
-pub mod Patterns
-pub mod Settled
 pub mod Nexts
 pub mod Running
 pub mod Answering

@@ -13,9 +13,10 @@ use borrow.Author.Tests.{lt-ltb, le-ltb, leb-true, ltb-false}
 use Rattle.stream.specs.declared.Run.{Run}
 use Rattle.stream.specs.declared.Next.{Next}
 use Rattle.stream.specs.declared.Next.the-variants.{Answer, Write, Read, End}
-use Rattle.stream.specs.Input.{longest, answerable}
+use Rattle.dayrun_settled.specs.Settled.{longest}
+use Rattle.stream.specs.Input.{answerable}
 use Rattle.stream.specs.Running.{unread, textSize, lineSize, Fits, ready, nextOf}
-use Rattle.stream.proofs.Settled.{unsettled-few}
+use Rattle.dayrun_settled.proofs.Settled.{unsettled-few}
 
 -- tells the four apart
 abbrev place : Next → ℕ

@@ -18,12 +18,13 @@ use Rattle.lines.specs.Text.{lineOf}
 use Rattle.stream.specs.declared.Run.{Run}
 use Rattle.stream.specs.declared.Next.the-variants.{Answer, Write, Read}
 use Rattle.stream.specs.Records.{Effect, startBook, atFront}
-use Rattle.stream.specs.Input.{Bytes, answerable, following, linesIn, linesOf}
+use Rattle.dayrun_settled.specs.Settled.{Bytes}
+use Rattle.stream.specs.Input.{answerable, following, linesIn, linesOf}
 use Rattle.stream.specs.Running.{unread, collected, answeredRun, AnswersNext, wroteRun, Fronted, receivedRun, State, nextIn, Reaches, begins, answers, writes, reads, WritesAll, WritesAtOnce, WaitsWhereOpen}
 use Rattle.stream.proofs.Taking.{front-read, front-refused}
-use Rattle.stream.proofs.Patterns.{nothing-open}
-use Rattle.stream.proofs.Front.{end-least}
-use Rattle.stream.proofs.Settled.{settled-stays, unsettled-open, settled-more}
+use Rattle.dayrun_settled.proofs.Patterns.{nothing-open}
+use Rattle.dayrun_settled.proofs.Front.{end-least}
+use Rattle.dayrun_settled.proofs.Settled.{settled-stays, unsettled-open, settled-more}
 use Rattle.stream.proofs.Nexts.{answering, reading-on, ending}
 
 -- ---- the lines of an input

@@ -12,7 +12,8 @@ use Rattle.stream.specs.declared.Run.{Run}
 use Rattle.stream.specs.declared.Next.{Next}
 use Rattle.stream.specs.declared.Next.the-variants.{Answer, Write, Read, End}
 use Rattle.stream.specs.Records.{Effect, startBook, atFront}
-use Rattle.stream.specs.Input.{Bytes, Open, answerable, following, linesOf, printed}
+use Rattle.dayrun_settled.specs.Settled.{Bytes, Open}
+use Rattle.stream.specs.Input.{answerable, following, linesOf, printed}
 
 -- ---- the state
 

@@ -1,13 +1,13 @@
-// Call records on a book, as they arrive: the call of a record, when its answer is settled, and the steps of the program `dayrun`.
+// Call records on a book, as they arrive: the call of a record, and the steps of the program `dayrun`.
 ghost use mathlib.Core.Path.{_≡_};
 ghost use mathlib.Core.Bool.{_&&_, not};
-ghost use mathlib.Core.List.{_∷_, _++_};
 ghost use Prim.Native.Nat.{_+_, _-_, _^_, _<_, _≤_};
 ghost use lib.Dec.{leb};
-ghost use lib.ListN.{length, drop, replicate};
+ghost use lib.ListN.{length};
 ghost use Rattle.cells.specs.View.{bookOf};
 ghost use Rattle.stream.specs.Records.{startBook, AnswersRecord, Takes};
-ghost use Rattle.stream.specs.Input.{longest, isRead, canBeRead, settled, answerable};
+ghost use Rattle.dayrun_settled.specs.Settled.{longest};
+ghost use Rattle.stream.specs.Input.{answerable};
 ghost use Rattle.stream.specs.Running.{textSize, lineSize, unread, Fits, ready, nextOf, startRun, AnswersNext, wroteRun, Fronted, receivedRun};
 use cells::Book;
 use rules::Answer;
@@ -85,63 +85,6 @@ fn take_record(book: &mut Book, bytes: &[u8]) -> Taken
     }
 }
 
-// ---- when a record is settled
-
-// The bytes begin with a record.
-fn is_read(bytes: &[u8]) -> bool
-    ensures { λ r. ⌜ r ≡ isRead (now (bytes .entry)) ⌝ }
-{
-    let read = record::read(bytes);
-    let answer = read.answer;
-    let reply = daybook::numbers(answer);
-    reply.number == 0
-}
-
-// They do once the bytes that are missing are the kind's map and number.
-fn is_read_as(bytes: &[u8], kind: u8, low: u8, high: u8) -> bool
-    requires { ⌜ length (now bytes) ≤ longest ⌝ }
-    ensures { λ r. ⌜ r ≡ isRead (now (bytes .entry) ++ drop (length (now (bytes .entry))) (low ∷ high ∷ replicate 22 kind)) ⌝ }
-{
-    let mut completed = [kind; 24];
-    completed[0] = low;
-    completed[1] = high;
-    bytes::copy(bytes, &mut completed);
-    is_read(&completed)
-}
-
-// Some bytes that follow make a record of them.
-fn can_be_read(bytes: &[u8]) -> bool
-    requires { ⌜ length (now bytes) ≤ longest ⌝ }
-    ensures { λ r. ⌜ r ≡ canBeRead (now (bytes .entry)) ⌝ }
-{
-    if is_read_as(bytes, 1, 0x13, 0x40) {
-        return true;
-    }
-    if is_read_as(bytes, 2, 0x23, 0x40) {
-        return true;
-    }
-    if is_read_as(bytes, 3, 0x57, 0x00) {
-        return true;
-    }
-    if is_read_as(bytes, 4, 0x8F, 0x01) {
-        return true;
-    }
-    is_read_as(bytes, 5, 0x53, 0x00)
-}
-
-// The answer is known, whatever follows the bytes.
-fn is_settled(bytes: &[u8]) -> bool
-    ensures { λ r. ⌜ r ≡ settled (now (bytes .entry)) ⌝ }
-{
-    if bytes.len() >= 24 {
-        return true;
-    }
-    if is_read(bytes) {
-        return true;
-    }
-    !can_be_read(bytes)
-}
-
 // ---- the program's steps
 
 // Nothing is read yet, and the first position is 1.
@@ -165,7 +108,7 @@ fn is_answerable(bytes: &[u8], ended: bool) -> bool
     if ended {
         return bytes.len() > 0;
     }
-    is_settled(bytes)
+    dayrun_settled::is_settled(bytes)
 }
 
 // The program goes on, and a line more fits the text.

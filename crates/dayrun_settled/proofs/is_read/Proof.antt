@@ -1,12 +1,12 @@
--- `stream::is_read` meets its contract.
+-- `dayrun_settled::is_read` meets its contract.
 -- Assumes nothing.
 use mathlib.Core.Path.{ap, _∙_}
 use borrow.Author.Needs.{needs}
 use lib.Dec.{eqb}
 use Rattle.rules.specs.Calls.{Reply}
 use Rattle.rules.specs.Records.{RecordReply}
-use Rattle.stream.proofs.is_read.Statement.{statement}
-use Rattle.stream.proofs.is_read.Tie as tie
+use Rattle.dayrun_settled.proofs.is_read.Statement.{statement}
+use Rattle.dayrun_settled.proofs.is_read.Tie as tie
 
 returns : tie.Need-returns
 returns c = ap (λ (a : Reply). eqb (a .number) 0) (c .before .numbers .ensures) ∙ ap (λ (r : RecordReply). eqb (r .reply .number) 0) (c .before .before .read .ensures .reply)

@@ -8,7 +8,7 @@ use lib.ListN.{length, drop, replicate}
 use Rattle.rules.specs.Basics.{bit, mapOf, has}
 use Rattle.rules.specs.Refusals.{order, firstOf}
 use Rattle.rules.specs.Records.{widths, callOf, kinds, stands, standing, bytesOf, numberAt, fieldsAt, endAt, fieldsIn, endIn, readerRefuses, reading}
-use Rattle.stream.specs.Input.{isRead, pattern, completed, canBeRead, settled}
+use Rattle.dayrun_settled.specs.Settled.{isRead, pattern, completed, canBeRead, settled}
 
 pub read-1 : isRead (completed 1 (19 ∷ [])) ≡ true
 unfolding bit mapOf has order firstOf widths callOf kinds stands standing bytesOf numberAt fieldsAt endAt fieldsIn endIn readerRefuses reading pattern completed

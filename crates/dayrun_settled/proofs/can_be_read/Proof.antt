@@ -1,11 +1,11 @@
--- `stream::can_be_read` meets its contract.
+-- `dayrun_settled::can_be_read` meets its contract.
 -- Assumes nothing.
 use mathlib.Core.Path.{refl, sym, _∙_}
 use borrow.Author.Needs.{needs}
-use Rattle.stream.proofs.Patterns.{as-1, as-2, as-3, as-4, as-5}
-use Rattle.stream.proofs.Settled.{any-kind, last-kind}
-use Rattle.stream.proofs.can_be_read.Statement.{statement}
-use Rattle.stream.proofs.can_be_read.Tie as tie
+use Rattle.dayrun_settled.proofs.Patterns.{as-1, as-2, as-3, as-4, as-5}
+use Rattle.dayrun_settled.proofs.Settled.{any-kind, last-kind}
+use Rattle.dayrun_settled.proofs.can_be_read.Statement.{statement}
+use Rattle.dayrun_settled.proofs.can_be_read.Tie as tie
 
 returns : tie.Need-returns
 returns c = sym (any-kind _ 1 refl (sym (c .before .is-read-as .ensures ∙ as-1 _) ∙ c .if1 .taken))

@@ -1,12 +1,12 @@
--- `stream::is_settled` meets its contract.
+-- `dayrun_settled::is_settled` meets its contract.
 -- Assumes nothing.
 use mathlib.Core.Path.{sym, _∙_}
 use native.Mathlib.Omega.{arith}
 use borrow.Author.Needs.{needs}
-use Rattle.stream.specs.Input.{settled}
-use Rattle.stream.proofs.Settled.{long-settled}
-use Rattle.stream.proofs.is_settled.Statement.{statement}
-use Rattle.stream.proofs.is_settled.Tie as tie
+use Rattle.dayrun_settled.specs.Settled.{settled}
+use Rattle.dayrun_settled.proofs.Settled.{long-settled}
+use Rattle.dayrun_settled.proofs.is_settled.Statement.{statement}
+use Rattle.dayrun_settled.proofs.is_settled.Tie as tie
 
 returns : tie.Need-returns
 returns c = sym (long-settled _ (omega arith))

@@ -1,12 +1,12 @@
--- `stream::is_read_as` meets its contract.
+-- `dayrun_settled::is_read_as` meets its contract.
 -- Assumes nothing.
 use mathlib.Core.Path.{ap, _∙_}
 use borrow.Author.Needs.{needs}
 use lib.Seq.{take-length}
 use denote.Ref.{now}
-use Rattle.stream.specs.Input.{isRead}
-use Rattle.stream.proofs.is_read_as.Statement.{statement}
-use Rattle.stream.proofs.is_read_as.Tie as tie
+use Rattle.dayrun_settled.specs.Settled.{isRead}
+use Rattle.dayrun_settled.proofs.is_read_as.Statement.{statement}
+use Rattle.dayrun_settled.proofs.is_read_as.Tie as tie
 
 returns : tie.Need-returns
 returns c =

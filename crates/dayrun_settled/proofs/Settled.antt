@@ -16,9 +16,9 @@ use Rattle.rules.specs.Records.{Kind, widths, kinds, kindAt, isKind, stands, st
 use Rattle.rules.proofs.Bools.{or-left, or-right, or-true, and-left, and-right}
 use Rattle.rules.proofs.Bits.{bit-of-map}
 use Rattle.rules.proofs.Records.{readable, Readable}
-use Rattle.stream.specs.Input.{longest, isRead, pattern, completed, canBeRead, settled, Bytes, SettledStays, Open, UnsettledOpen}
-use Rattle.stream.proofs.Patterns.{read-1, read-2, read-3, read-4, read-5, nothing-open}
-use Rattle.stream.proofs.Front.{taking-most, total, end-longest, end-least, map-front, whole-same, accepts, is-read, refused-alike, read-whole}
+use Rattle.dayrun_settled.specs.Settled.{longest, isRead, pattern, completed, canBeRead, settled, Bytes, SettledStays, Open, UnsettledOpen}
+use Rattle.dayrun_settled.proofs.Patterns.{read-1, read-2, read-3, read-4, read-5, nothing-open}
+use Rattle.dayrun_settled.proofs.Front.{taking-most, total, end-longest, end-least, map-front, whole-same, accepts, is-read, refused-alike, read-whole}
 
 -- ---- a field that isn't wholly there
 

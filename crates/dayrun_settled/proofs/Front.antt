@@ -11,7 +11,7 @@ use borrow.Author.Tests.{le-ltb, eqb-true}
 use Rattle.rules.specs.Basics.{bit}
 use Rattle.rules.specs.Records.{widths, numberAt, mapAt, taking, fieldsAt, endAt, fieldsIn, endIn, readerRefuses, RecordReply, reading}
 use Rattle.rules.proofs.Records.{end-after, reading-by, reader-accepts, readable}
-use Rattle.stream.specs.Input.{longest, isRead}
+use Rattle.dayrun_settled.specs.Settled.{longest, isRead}
 
 pub number-front : (w : ℕ) (s t : List ℕ) (at : ℕ) → at + w ≤ length s → numberAt w (s ++ t) at ≡ numberAt w s at
 unfolding numberAt
