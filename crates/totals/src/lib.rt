@@ -3,7 +3,7 @@ ghost use mathlib.Core.Path.{_≡_};
 ghost use Prim.Native.Nat.{_+_, _<_, _≤_, _^_};
 ghost use lib.ListN.{length, take};
 ghost use Rattle.rules.specs.Basics.{five};
-ghost use Rattle.totals.specs.Total.{Most, sumIn, totalLower, totals};
+ghost use Rattle.totals.specs.Total.{Most, sumIn, totals};
 
 // A pair of a right: the lower of its two sides in each hour of the session.
 pub struct Pair {

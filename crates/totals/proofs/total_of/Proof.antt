@@ -34,7 +34,7 @@ use denote.Array.{Array, array-vals, array-tells, array-lawful}
 use denote.Ref.{RefT}
 use denote.Signature.{plain}
 use denote.Slice.{sliceTy, sliceVal, Room, ShrSlice}
-use denote.Steps.{peeks, heard, nothing, only, owned}
+use denote.Steps.{peeks, heard, nothing, only}
 use denote.Struct.Laws as LL
 use denote.Triple.Statement.{Contract, Triple}
 use denote.Triple.Call.{calls-at}
