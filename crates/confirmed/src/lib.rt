@@ -14,7 +14,7 @@ use totals::Pair;
 
 // The pairs of one right: the first `count` of the array.
 struct PairList {
-    pairs: [Pair; 512],
+    pairs: [Pair; totals::MOST],
     count: usize,
 }
 
@@ -54,7 +54,7 @@ fn pairs_of(book: &Book, right: u32) -> PairList
     ensures { λ r. ⌜ Gathered (now (book .entry)) right r ⌝ }
 {
     let none = Pair { lower: [0; 5] };
-    let mut pairs = [none; 512];
+    let mut pairs = [none; totals::MOST];
     let mut count: usize = 0;
     let entries = cells::count_in(book, cells::PAIRS, cells::PAIR_LIMIT);
     for i in 0..entries {

@@ -14,7 +14,7 @@ longest = 24
 
 -- the bytes begin with a record that the reader takes
 abbrev pub isRead : List ℕ → Bool
-isRead s = eqb (reading s .number) 0
+isRead s = eqb (reading s .reply .number) 0
 
 -- the map of a kind's record without MW, and then bytes that are a kind, and no MW of 0
 unfoldable pub pattern : ℕ → List ℕ

@@ -3,7 +3,11 @@ ghost use mathlib.Core.Path.{_≡_};
 ghost use Prim.Native.Nat.{_+_, _<_, _≤_, _^_};
 ghost use lib.ListN.{length, take};
 ghost use Rattle.rules.specs.Basics.{five};
+ghost use Rattle.rules.specs.Book.{pairLimit};
 ghost use Rattle.totals.specs.Total.{Most, sumIn, totals};
+
+// As many pairs as the table of pairs holds at most.
+pub const MOST: usize = 512;
 
 // A pair of a right: the lower of its two sides in each hour of the session.
 pub struct Pair {
@@ -35,7 +39,7 @@ fn with_lower(sums: [u64; 5], pair: Pair) -> [u64; 5]
 
 // The sums of the lower sides over the pairs, proved by hand.
 pub fn total_lower(list: &[Pair]) -> [u64; 5]
-    requires { ⌜ length (now list) ≤ 512 ⌝ }
+    requires { ⌜ length (now list) ≤ pairLimit ⌝ }
     ensures { λ r. ⌜ r ≡ totals (now (list .entry)) ⌝ }
 {
     let mut sums = [0u64; 5];
@@ -48,8 +52,8 @@ pub fn total_lower(list: &[Pair]) -> [u64; 5]
 }
 
 // The sums over the first `count` pairs, proved by hand: its parameters are plain, so its callers need no walk.
-pub fn total_of(list: [Pair; 512], count: usize) -> [u64; 5]
-    requires { ⌜ count ≤ 512 ⌝ }
+pub fn total_of(list: [Pair; MOST], count: usize) -> [u64; 5]
+    requires { ⌜ count ≤ pairLimit ⌝ }
     ensures { λ r. ⌜ r ≡ totals (take count list) ⌝ }
 {
     total_lower(&list[..count])

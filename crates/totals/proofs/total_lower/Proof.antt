@@ -49,6 +49,7 @@ use denote.Triple.Table.{entered, cited}
 use denote.Triple.Walked.{says, needs, Stays, stay-dropped, walkOf, goes-dropped, Walks, ends-at, walked, walk-meets}
 use denote.Exit.{yes}
 use Rattle.rules.specs.Basics.{five}
+use Rattle.rules.specs.Book.{pairLimit}
 use Rattle.totals.specs.declared.Pair.{Pair}
 use Rattle.totals.specs.Total.{Most, sumIn, totalLower, totals, sumOf}
 use Rattle.totals.proofs.Sums.{totals-next, most-next}
@@ -97,7 +98,7 @@ sums = tyArray (tyInt w64) 5
 abbrev word : List ℕ → Val
 word xs = only (array-vals (uint-vals w64) xs)
 
-sums-are : (f : ℕ → ℕ) → Most (512 * 4294967295) (five f) → Is Sums (five f) (word (five f) ∷ [])
+sums-are : (f : ℕ → ℕ) → Most (pairLimit * 4294967295) (five f) → Is Sums (five f) (word (five f) ∷ [])
 sums-are f m =
     let a = m .first in
     let b = m .second in
@@ -106,7 +107,7 @@ sums-are f m =
     let e = m .fifth in
     (vint w64 (f 0) ∷ vint w64 (f 1) ∷ vint w64 (f 2) ∷ vint w64 (f 3) ∷ vint w64 (f 4) ∷ [], ((refl, refl), ((refl, omega arith), ((refl, omega arith), ((refl, omega arith), ((refl, omega arith), ((refl, omega arith), tt)))))))
 
-zeros : Most (512 * 4294967295) (five (λ k. 0))
+zeros : Most (pairLimit * 4294967295) (five (λ k. 0))
 zeros = record { first = omega arith; second = omega arith; third = omega arith; fourth = omega arith; fifth = omega arith }
 
 -- a larger bound
@@ -143,7 +144,7 @@ module _ {M : Type 1} (𝓤 : URA M) (H : Heap 𝓤) (A : Atoms 𝓤) (W : Given
   Post = walkOf 𝓤 H A total.ended stayed (total.clauses 𝓤 H A mem run) .post (((κ, tt), (q, tt), tt, (s, tt), at), tt)
 
   -- nothing is kept of the parameters
-  exits : (xs : List Pair) → totals xs ≡ totals ys → Most (512 * 4294967295) (totals xs) → ent 𝓤 (A .lft κ q) (Post (word (totals xs)))
+  exits : (xs : List Pair) → totals xs ≡ totals ys → Most (pairLimit * 4294967295) (totals xs) → ent 𝓤 (A .lft κ q) (Post (word (totals xs)))
   exits xs e g =
       qed W (‵ (flft κ q) ∷ []) ∵
       suffices ! _ (ends-at 𝓤 H A total.ended stayed (total.clauses 𝓤 H A mem run) W (((κ, tt), (q, tt), tt, (s, tt), at), tt) (word (totals xs)) (totals xs) (tt, tt) (tt, tt)) $ says ! e $
@@ -154,8 +155,8 @@ module _ {M : Type 1} (𝓤 : URA M) (H : Heap 𝓤) (A : Atoms 𝓤) (W : Given
   abbrev to : List ℕ → Pair → More 𝓤 H A mem run .Ghost
   to xs p = ((tt, tt, tt, (xs, (p, tt)), (word xs ∷ [], (vals p, tt))), tt)
 
-  goes : (xs : List Pair) (p : Pair) → Most (512 * 4294967295) (totals xs) → ent 𝓤 (sem 𝓤 H A (T.the-row .own p (vals p))) (More 𝓤 H A mem run .pre (to (totals xs) p))
-  goes xs p g = qed W (‵ (T.the-row .own p (vals p)) ∷ []) ∵ says ! (lax (512 * 4294967295) (2 ^ 63) (totals xs) (omega arith) g) $ nothing ! $ move ! (1 ∷ 0 ∷ []) $ fjoin ! $
+  goes : (xs : List Pair) (p : Pair) → Most (pairLimit * 4294967295) (totals xs) → ent 𝓤 (sem 𝓤 H A (T.the-row .own p (vals p))) (More 𝓤 H A mem run .pre (to (totals xs) p))
+  goes xs p g = qed W (‵ (T.the-row .own p (vals p)) ∷ []) ∵ says ! (lax (pairLimit * 4294967295) (2 ^ 63) (totals xs) (omega arith) g) $ nothing ! $ move ! (1 ∷ 0 ∷ []) $ fjoin ! $
       owned ! Sums (Is Sums) (array-makes 𝓤 H A W u64 (uint-makes 𝓤 H A W w64) 5) (totals xs) _ (sums-are (λ k. totalLower k xs) g) $ fjoin ! $ nothing ! $ done !
 
   -- the loop's variant: i pairs are passed, and their sums are small
@@ -171,7 +172,7 @@ module _ {M : Type 1} (𝓤 : URA M) (H : Heap 𝓤) (A : Atoms 𝓤) (W : Given
   Nearer-wf : WellFounded Nearer
   Nearer-wf = InvImage·wf (λ (i : Upto). n - i .0) (Nat·lt-wfRel .wf)
 
-  module _ (𝓣 : Tables 𝓤 H) (fm : FmC 𝓤 H (W .laws) (𝓣 .C)) (known : Triple 𝓤 (𝓣 .C #totals·with-lower) (More 𝓤 H A mem run)) (few : n ≤ 512) (g : Room T.the-row n) (q′ : Share) (l₀ l₁ l₂ l₃ l₄ l₅ l₆ l₇ : ℕ) where
+  module _ (𝓣 : Tables 𝓤 H) (fm : FmC 𝓤 H (W .laws) (𝓣 .C)) (known : Triple 𝓤 (𝓣 .C #totals·with-lower) (More 𝓤 H A mem run)) (few : n ≤ pairLimit) (g : Room T.the-row n) (q′ : Share) (l₀ l₁ l₂ l₃ l₄ l₅ l₆ l₇ : ℕ) where
     abbrev C : Calls 𝓤 H
     C = 𝓣 .C
 
@@ -193,8 +194,8 @@ module _ {M : Type 1} (𝓤 : URA M) (H : Heap 𝓤) (A : Atoms 𝓤) (W : Given
       abbrev here : Pair
       here = getD ys (i .0) none
 
-      small : Most (512 * 4294967295) (sum (i .0))
-      small = lax (i .0 * 4294967295) (512 * 4294967295) (sum (i .0)) (omega arith) (i .2)
+      small : Most (pairLimit * 4294967295) (sum (i .0))
+      small = lax (i .0 * 4294967295) (pairLimit * 4294967295) (sum (i .0)) (omega arith) (i .2)
 
       module _ (within : i .0 < n) where
         times-fits : i .0 * size < 2 ^ 64
@@ -251,7 +252,7 @@ module _ {M : Type 1} (𝓤 : URA M) (H : Heap 𝓤) (A : Atoms 𝓤) (W : Given
         by ! (exits (take (i .0) ys) (ap totals (take-all (i .0) ys (nltb→le (i .0) n over))) (small i)))
 
   module _ (𝓣 : Tables 𝓤 H) (fm : FmC 𝓤 H (W .laws) (𝓣 .C)) (known : Triple 𝓤 (𝓣 .C #totals·with-lower) (More 𝓤 H A mem run)) where
-    walk : Is (ShrSlice (named 0) κ T.the-row) s (v ∷ []) → n ≤ 512 → ent 𝓤 (onEntry 𝓤 H A total.signature (κ, tt) (q, tt) (s, tt) at) (WpFn 𝓤 H (𝓣 .C) (𝓣 .Λ) code.function (v ∷ []) Post)
+    walk : Is (ShrSlice (named 0) κ T.the-row) s (v ∷ []) → n ≤ pairLimit → ent 𝓤 (onEntry 𝓤 H A total.signature (κ, tt) (q, tt) (s, tt) at) (WpFn 𝓤 H (𝓣 .C) (𝓣 .Λ) code.function (v ∷ []) Post)
     unfolding sumOf
     walk p few =
         qed W ((‵ (flft κ q) ⊛ ‵ ftrue) ∷ ‵ (owns (ShrSlice (named 0) κ T.the-row ∷ []) (s, tt) at) ∷ []) ∵ enter ! (𝓣 .C) (𝓣 .Λ) code.function (v ∷ []) _ $
@@ -269,7 +270,7 @@ module _ {M : Type 1} (𝓤 : URA M) (H : Heap 𝓤) (A : Atoms 𝓤) (W : Given
 module _ {M : Type 1} (𝓤 : URA M) (H : Heap 𝓤) (A : Atoms 𝓤) (W : Given 𝓤 H A) (mem : Memory → SProp 𝓤) (run : Routine → Fun 𝓤) (𝓣 : Tables 𝓤 H) (known : Triple 𝓤 (𝓣 .C #totals·with-lower) (More 𝓤 H A mem run)) where
   total-walks : Walks 𝓤 H A total.ended stayed (WpFn 𝓤 H (𝓣 .C) (𝓣 .Λ) code.function) (total.clauses 𝓤 H A mem run)
   total-walks = walked 𝓤 H A total.ended stayed (total.clauses 𝓤 H A mem run) (WpFn 𝓤 H (𝓣 .C) (𝓣 .Λ) code.function) (λ κs. (slice-vals, tt)) (λ κs. (shr-slice-tells (named 0) (κs .0) T.the-row, tt))
-      (λ κs qs bounds a g are. needs 𝓤 (length (a .0 .now) ≤ 512) _ (λ pre. walk 𝓤 H A W mem run (κs .0) (qs .0) (a .0 .ptr .0) (a .0 .ptr .1) (a .0 .name) (a .0 .now) 𝓣 (fmOf 𝓤 H (W .laws) 𝓣) known (are .0) pre))
+      (λ κs qs bounds a g are. needs 𝓤 (length (a .0 .now) ≤ pairLimit) _ (λ pre. walk 𝓤 H A W mem run (κs .0) (qs .0) (a .0 .ptr .0) (a .0 .ptr .1) (a .0 .name) (a .0 .now) 𝓣 (fmOf 𝓤 H (W .laws) 𝓣) known (are .0) pre))
 
   total-meets : Meets 𝓤 H A total.signature (WpFn 𝓤 H (𝓣 .C) (𝓣 .Λ) code.function) (total.spec 𝓤 H A mem run)
   total-meets = walk-meets 𝓤 H A total.ended stayed W (goes-dropped 𝓤 H A W 1 (shrSliceOf (0 ∷ []) tt (plain (λ _. T.the-row))) yes (λ κs x f. refl), tt) (total.clauses 𝓤 H A mem run) (WpFn 𝓤 H (𝓣 .C) (𝓣 .Λ) code.function) (WpFn-mono 𝓤 H (W .laws) 𝓣 code.function) total-walks

@@ -44,6 +44,7 @@ use denote.Triple.Spec.{Meets, tripleOf}
 use denote.Triple.Table.{entered, cited}
 use denote.Triple.Walked.{says, needs, Stays, stay-dropped, walkOf, goes-dropped, Walks, ends-at, walked, walk-meets}
 use denote.Exit.{yes}
+use Rattle.rules.specs.Book.{pairLimit}
 use Rattle.totals.specs.declared.Pair.{Pair}
 use Rattle.totals.specs.Total.{totals}
 use Rattle.totals.proofs.Prefix.{Front, Others, lends-prefix, prefix-back}
@@ -60,7 +61,7 @@ use Rattle.totals.proofs.total_of.Code as code
 
 -- how many pairs the array has
 abbrev most : ℕ
-most = 512
+most = pairLimit
 
 abbrev Pairs : RattleType
 Pairs = Array T.the-row most
