@@ -8,8 +8,8 @@ fn main() {
     let codes = codes::run(Tally { cases: 0, wrong: 0 });
     let sessions = cases_sessions::run(codes);
     let windows = cases_windows::run(sessions);
-    let calls = cases_calls::run(cases_records::run(windows));
-    let tally = cases_full::run(calls);
+    let records = cases_records::run(windows);
+    let tally = cases_full::run(records);
     let numbers = [tally.cases, tally.wrong];
     fill(b"# cases, # not as expected\n", &numbers);
 }
