@@ -17,7 +17,7 @@ use rehearse_text::past_word;
 use std::num::wrapping_add_usize;
 
 // In the order of the kinds below.
-const PATTERNS: &[u8] = b"open 1 hours, weekday 1 =+;direction 1 to 1, model 1 =+;profile of directions * =+;party @, access 1 =+;offer at 4, direction|profile 1, hour 1: ? =+;bid at 4, party 1, direction 1, session 1: ? ? ? ? ? =+;nominate at 4, party 1, other 1, right 2, side 1: ? ? ? ? ? =+;match at 4, direction 1, session 1 =+;left of direction|profile 1, hour 1 =+;right 2 =+;confirmed of right 2, out 1, in 1 =+;";
+const PATTERNS: [u8; 394] = *b"open 1 hours, weekday 1 =+;direction 1 to 1, model 1 =+;profile of directions * =+;party @, access 1 =+;offer at 4, direction|profile 1, hour 1: ? =+;bid at 4, party 1, direction 1, session 1: ? ? ? ? ? =+;nominate at 4, party 1, other 1, right 2, side 1: ? ? ? ? ? =+;match at 4, direction 1, session 1 =+;left of direction|profile 1, hour 1 =+;right 2 =+;confirmed of right 2, out 1, in 1 =+;";
 
 // Kinds of lines.
 pub const OPEN: usize = 0;
@@ -344,5 +344,5 @@ fn match_in(table: &[u8], line: &[u8]) -> Found {
 }
 
 pub fn match_line(line: &[u8]) -> Found {
-    match_in(PATTERNS, line)
+    match_in(&PATTERNS, line)
 }

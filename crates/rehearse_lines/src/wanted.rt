@@ -36,5 +36,5 @@ fn put_mark(text: &mut [u8], at: usize, table: &[u8], place: usize) -> usize {
 }
 
 pub fn put_wanted(text: &mut [u8], at: usize, place: usize) -> usize {
-    put_mark(text, at, PATTERNS, place)
+    put_mark(text, at, &PATTERNS, place)
 }

@@ -1,0 +1,150 @@
+// The call or read that a line makes. Its numbers fit their fields.
+ghost use mathlib.Core.Path.{_≡_};
+ghost use Prim.Native.Nat.{_≤_, _%_};
+ghost use Rattle.answers.specs.Promises.{Opens, Answers, ReadsRight, ReadsConfirmed};
+ghost use Rattle.rehearse_answers.specs.Made.{byteAt, twoAt, fiveFrom, offerOf, bidOf, nominateOf, matchOf, directionOf, callOf};
+use answers::ConfirmedRead;
+use answers::LeftRead;
+use answers::RightRead;
+use cells::Book;
+use rules::Answer;
+use rules::Hour;
+use rules::Session;
+
+// ---- calls
+
+pub fn open(book: &mut Book, given: [u64; 10]) -> Answer
+    ensures { λ r. ⌜ Opens (byteAt given 0) (byteAt given 1) r (now (book .exit)) ⌝ }
+{
+    daybook::open_day(book, (given[0] % 256) as u8, (given[1] % 256) as u8)
+}
+
+fn add_direction(book: &mut Book, given: [u64; 10]) -> Answer
+    ensures { λ r. ⌜ Answers (now (book .entry)) (directionOf given) r (now (book .exit)) ⌝ }
+{
+    daybook::add_direction(
+        book,
+        (given[0] % 256) as u8,
+        (given[1] % 256) as u8,
+        (given[2] % 256) as u8,
+    )
+}
+
+fn offer(book: &mut Book, is_profile: bool, given: [u64; 10]) -> Answer
+    ensures { λ r. ⌜ Answers (now (book .entry)) (offerOf is_profile given) r (now (book .exit)) ⌝ }
+{
+    let time = (given[0] % 4294967296) as u32;
+    let number = (given[1] % 256) as u8;
+    let hour = Hour((given[2] % 256) as u8);
+    let mw = (given[3] % 65536) as u16;
+    if is_profile {
+        return daybook::offer_profile(book, time, number, hour, mw);
+    }
+    daybook::offer_direction(book, time, number, hour, mw)
+}
+
+// Five MW, from one of the numbers on.
+fn five(given: [u64; 10], from: usize) -> [u16; 5]
+    requires { ⌜ from ≤ 5 ⌝ }
+    ensures { λ r. ⌜ r ≡ fiveFrom given from ⌝ }
+{
+    [
+        (given[from] % 65536) as u16,
+        (given[from + 1] % 65536) as u16,
+        (given[from + 2] % 65536) as u16,
+        (given[from + 3] % 65536) as u16,
+        (given[from + 4] % 65536) as u16,
+    ]
+}
+
+fn bid(book: &mut Book, given: [u64; 10]) -> Answer
+    ensures { λ r. ⌜ Answers (now (book .entry)) (bidOf given) r (now (book .exit)) ⌝ }
+{
+    let time = (given[0] % 4294967296) as u32;
+    let party = (given[1] % 256) as u8;
+    let direction = (given[2] % 256) as u8;
+    let session = Session((given[3] % 256) as u8);
+    let mw = five(given, 4);
+    daybook::bid(book, time, party, direction, session, mw)
+}
+
+fn nominate(book: &mut Book, given: [u64; 10]) -> Answer
+    ensures { λ r. ⌜ Answers (now (book .entry)) (nominateOf given) r (now (book .exit)) ⌝ }
+{
+    let time = (given[0] % 4294967296) as u32;
+    let sender = (given[1] % 256) as u8;
+    let other = (given[2] % 256) as u8;
+    let right = (given[3] % 65536) as u16;
+    let side = (given[4] % 256) as u8;
+    let mw = five(given, 5);
+    daybook::nominate(book, time, sender, other, right, side, mw)
+}
+
+fn match_session(book: &mut Book, given: [u64; 10]) -> Answer
+    ensures { λ r. ⌜ Answers (now (book .entry)) (matchOf given) r (now (book .exit)) ⌝ }
+{
+    let time = (given[0] % 4294967296) as u32;
+    let direction = (given[1] % 256) as u8;
+    let session = Session((given[2] % 256) as u8);
+    daybook::match_session(book, time, direction, session)
+}
+
+// By the kind of the line, from a direction to a matching.
+pub fn call(
+    book: &mut Book,
+    kind: usize,
+    is_profile: bool,
+    given: [u64; 10],
+    directions: u32,
+    code: [u8; 16],
+) -> Answer
+    ensures { λ r. ⌜ Answers (now (book .entry)) (callOf kind is_profile given directions code) r (now (book .exit)) ⌝ }
+{
+    if kind == rehearse_lines::DIRECTION {
+        return add_direction(book, given);
+    }
+    if kind == rehearse_lines::PROFILE {
+        return daybook::add_profile(book, directions);
+    }
+    if kind == rehearse_lines::PARTY {
+        return daybook::add_party(book, code, (given[0] % 256) as u8);
+    }
+    if kind == rehearse_lines::OFFER {
+        return offer(book, is_profile, given);
+    }
+    if kind == rehearse_lines::BID {
+        return bid(book, given);
+    }
+    if kind == rehearse_lines::NOMINATE {
+        return nominate(book, given);
+    }
+    match_session(book, given)
+}
+
+// ---- reads
+
+pub fn left(book: &Book, is_profile: bool, given: [u64; 10]) -> LeftRead {
+    let number = (given[0] % 256) as u8;
+    let hour = Hour((given[1] % 256) as u8);
+    if is_profile {
+        return daybook::left_of_profile(book, number, hour);
+    }
+    daybook::left_of_direction(book, number, hour)
+}
+
+pub fn right(book: &Book, given: [u64; 10]) -> RightRead
+    ensures { λ r. ⌜ ReadsRight (now (book .entry)) (twoAt given 0) r ⌝ }
+{
+    daybook::right_at(book, (given[0] % 65536) as u16)
+}
+
+pub fn confirmed(book: &Book, given: [u64; 10]) -> ConfirmedRead
+    ensures { λ r. ⌜ ReadsConfirmed (now (book .entry)) (twoAt given 0) (byteAt given 1) (byteAt given 2) r ⌝ }
+{
+    daybook::confirmed_of(
+        book,
+        (given[0] % 65536) as u16,
+        (given[1] % 256) as u8,
+        (given[2] % 256) as u8,
+    )
+}
