@@ -30,14 +30,14 @@ fn add_direction(book: &mut Book, given: [u64; 10]) -> Answer
     )
 }
 
-fn offer(book: &mut Book, is_profile: bool, given: [u64; 10]) -> Answer
-    ensures { λ r. ⌜ Answers (now (book .entry)) (offerOf is_profile given) r (now (book .exit)) ⌝ }
+fn offer(book: &mut Book, profile: bool, given: [u64; 10]) -> Answer
+    ensures { λ r. ⌜ Answers (now (book .entry)) (offerOf profile given) r (now (book .exit)) ⌝ }
 {
     let time = (given[0] % 4294967296) as u32;
     let number = (given[1] % 256) as u8;
     let hour = Hour((given[2] % 256) as u8);
     let mw = (given[3] % 65536) as u16;
-    if is_profile {
+    if profile {
         return daybook::offer_profile(book, time, number, hour, mw);
     }
     daybook::offer_direction(book, time, number, hour, mw)
@@ -93,12 +93,12 @@ fn match_session(book: &mut Book, given: [u64; 10]) -> Answer
 pub fn call(
     book: &mut Book,
     kind: usize,
-    is_profile: bool,
+    profile: bool,
     given: [u64; 10],
     directions: u32,
     code: [u8; 16],
 ) -> Answer
-    ensures { λ r. ⌜ Answers (now (book .entry)) (callOf kind is_profile given directions code) r (now (book .exit)) ⌝ }
+    ensures { λ r. ⌜ Answers (now (book .entry)) (callOf kind profile given directions code) r (now (book .exit)) ⌝ }
 {
     if kind == rehearse_lines::DIRECTION {
         return add_direction(book, given);
@@ -110,7 +110,7 @@ pub fn call(
         return daybook::add_party(book, code, (given[0] % 256) as u8);
     }
     if kind == rehearse_lines::OFFER {
-        return offer(book, is_profile, given);
+        return offer(book, profile, given);
     }
     if kind == rehearse_lines::BID {
         return bid(book, given);
@@ -123,10 +123,10 @@ pub fn call(
 
 // ---- reads
 
-pub fn left(book: &Book, is_profile: bool, given: [u64; 10]) -> LeftRead {
+pub fn left(book: &Book, profile: bool, given: [u64; 10]) -> LeftRead {
     let number = (given[0] % 256) as u8;
     let hour = Hour((given[1] % 256) as u8);
-    if is_profile {
+    if profile {
         return daybook::left_of_profile(book, number, hour);
     }
     daybook::left_of_direction(book, number, hour)

@@ -100,7 +100,8 @@ fn call(book: &mut Book, line: &[u8], found: Found) -> Answer {
 
 fn numbers(book: &mut Book, line: &[u8], found: Found) -> Numbers {
     let given = found.given.values;
-    match found.kind {
+    let kind = found.kind;
+    match kind {
         rehearse_lines::LEFT => of_left(calls::left(book, found.is_profile, given)),
         rehearse_lines::RIGHT => of_right(calls::right(book, given)),
         rehearse_lines::CONFIRMED => of_confirmed(calls::confirmed(book, given)),

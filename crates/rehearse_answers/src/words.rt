@@ -59,15 +59,20 @@ fn put_hours(text: &mut [u8], at: usize, marks: u64) -> usize {
     end
 }
 
+// One mark or several.
+fn put_above(text: &mut [u8], at: usize, marks: u64) -> usize {
+    match marks {
+        1 | 2 | 4 | 8 | 16 => put(text, at, b"granted: above the right in hour"),
+        _ => put(text, at, b"granted: above the right in hours"),
+    }
+}
+
 // The hours in which nominations are above the right.
 fn put_nominated(text: &mut [u8], at: usize, marks: u64) -> usize {
     if marks == 0 {
         return put(text, at, b"granted");
     }
-    let end = match marks {
-        1 | 2 | 4 | 8 | 16 => put(text, at, b"granted: above the right in hour"),
-        _ => put(text, at, b"granted: above the right in hours"),
-    };
+    let end = put_above(text, at, marks);
     put_hours(text, end, marks)
 }
 

@@ -5,7 +5,6 @@
 // = begins the numbers expected, + stands for these, and ; ends the pattern.
 mod wanted;
 
-pub use wanted::put_wanted;
 use rehearse_text::Digits;
 use rehearse_text::Numbers;
 use rehearse_text::byte_at;
@@ -15,28 +14,44 @@ use rehearse_text::is_break;
 use rehearse_text::past_spaces;
 use rehearse_text::past_word;
 use std::num::wrapping_add_usize;
+pub use wanted::put_wanted;
 
 // In the order of the kinds below.
-const PATTERNS: [u8; 394] = *b"open 1 hours, weekday 1 =+;direction 1 to 1, model 1 =+;profile of directions * =+;party @, access 1 =+;offer at 4, direction|profile 1, hour 1: ? =+;bid at 4, party 1, direction 1, session 1: ? ? ? ? ? =+;nominate at 4, party 1, other 1, right 2, side 1: ? ? ? ? ? =+;match at 4, direction 1, session 1 =+;left of direction|profile 1, hour 1 =+;right 2 =+;confirmed of right 2, out 1, in 1 =+;";
+const PATTERNS: [u8; 394] =
+    *b"open 1 hours, weekday 1 =+;direction 1 to 1, model 1 =+;profile of directions * =+;party @, access 1 =+;offer at 4, direction|profile 1, hour 1: ? =+;bid at 4, party 1, direction 1, session 1: ? ? ? ? ? =+;nominate at 4, party 1, other 1, right 2, side 1: ? ? ? ? ? =+;match at 4, direction 1, session 1 =+;left of direction|profile 1, hour 1 =+;right 2 =+;confirmed of right 2, out 1, in 1 =+;";
 
 // Kinds of lines.
 pub const OPEN: usize = 0;
+
 pub const DIRECTION: usize = 1;
+
 pub const PROFILE: usize = 2;
+
 pub const PARTY: usize = 3;
+
 pub const OFFER: usize = 4;
+
 pub const BID: usize = 5;
+
 pub const NOMINATE: usize = 6;
+
 pub const MATCH: usize = 7;
+
 pub const LEFT: usize = 8;
+
 pub const RIGHT: usize = 9;
+
 pub const CONFIRMED: usize = 10;
+
 const KINDS: usize = 11;
 
 // How far the match is: still under way; the line fits; another word stands at `at` than `place` wants; the number at `at` is too large.
 const UNDER_WAY: u8 = 0;
+
 pub const FITS: u8 = 1;
+
 pub const OTHER: u8 = 2;
+
 pub const LARGE: u8 = 3;
 
 // What stands in a line up to `at`, which fits the patterns up to `place`.
@@ -181,7 +196,11 @@ fn megawatts(line: &[u8], found: Found) -> Found {
 }
 
 fn bit_of(direction: u64) -> u32 {
-    if direction < 32 { 1u32 << (direction as u32) } else { 0 }
+    if direction < 32 {
+        1u32 << (direction as u32)
+    } else {
+        0
+    }
 }
 
 // A direction's bit is added to the map, up to the end of the call.

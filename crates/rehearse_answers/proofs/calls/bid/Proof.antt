@@ -1,0 +1,24 @@
+-- `rehearse_answers::calls::bid` meets its contract.
+-- Assumes nothing.
+use borrow.Author.Needs.{needs}
+use Rattle.rehearse_answers.proofs.calls.bid.Statement.{statement}
+use Rattle.rehearse_answers.proofs.calls.bid.Tie as tie
+
+returns : tie.Need-returns
+returns c = rw (c .before .before .five .ensures) at (c .bid .ensures)
+
+pub bid-spec : {M : Type 1} → statement M
+bid-spec =
+    tie.close
+    (tie.spec
+    (λ c. search needs)
+    (λ c. search needs)
+    (λ c. search needs)
+    (λ c. search needs)
+    (λ c. search needs)
+    (λ c. search needs)
+    (λ c. search needs)
+    (λ c. search needs)
+    (λ c κs. search needs)
+    (λ c κs. search needs)
+    returns)

@@ -1,0 +1,26 @@
+-- `rehearse_answers::calls::nominate` meets its contract.
+-- Assumes nothing.
+use borrow.Author.Needs.{needs}
+use Rattle.rehearse_answers.proofs.calls.nominate.Statement.{statement}
+use Rattle.rehearse_answers.proofs.calls.nominate.Tie as tie
+
+returns : tie.Need-returns
+returns c = rw (c .before .before .five .ensures) at (c .nominate .ensures)
+
+pub nominate-spec : {M : Type 1} → statement M
+nominate-spec =
+    tie.close
+    (tie.spec
+    (λ c. search needs)
+    (λ c. search needs)
+    (λ c. search needs)
+    (λ c. search needs)
+    (λ c. search needs)
+    (λ c. search needs)
+    (λ c. search needs)
+    (λ c. search needs)
+    (λ c. search needs)
+    (λ c. search needs)
+    (λ c κs. search needs)
+    (λ c κs. search needs)
+    returns)
