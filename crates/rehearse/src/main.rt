@@ -55,7 +55,7 @@ fn print(text: &[u8], end: usize) -> bool {
     if text.len() < end {
         return false;
     }
-    io::write_all(libc::STDOUT_FILENO, &text[..end])
+    io::write_all(libc::STDOUT_FILENO, &text[0..end])
 }
 
 // Answers the first bytes of a line.
@@ -63,7 +63,7 @@ fn answer_first(book: &mut Book, line: &[u8], count: usize, opened: bool, text: 
     if LINE < count || line.len() < count {
         return rehearse_answers::answer_too_long(opened, text);
     }
-    rehearse_answers::answer_line(book, &line[..count], opened, text)
+    rehearse_answers::answer_line(book, &line[0..count], opened, text)
 }
 
 // Answers a line and prints it at once.
