@@ -17,8 +17,19 @@ use std::num::wrapping_add_usize;
 pub use wanted::put_wanted;
 
 // In the order of the kinds below.
-const PATTERNS: [u8; 394] =
-    *b"open 1 hours, weekday 1 =+;direction 1 to 1, model 1 =+;profile of directions * =+;party @, access 1 =+;offer at 4, direction|profile 1, hour 1: ? =+;bid at 4, party 1, direction 1, session 1: ? ? ? ? ? =+;nominate at 4, party 1, other 1, right 2, side 1: ? ? ? ? ? =+;match at 4, direction 1, session 1 =+;left of direction|profile 1, hour 1 =+;right 2 =+;confirmed of right 2, out 1, in 1 =+;";
+const PATTERNS: [u8; 394] = *b"\
+    open 1 hours, weekday 1 =+;\
+    direction 1 to 1, model 1 =+;\
+    profile of directions * =+;\
+    party @, access 1 =+;\
+    offer at 4, direction|profile 1, hour 1: ? =+;\
+    bid at 4, party 1, direction 1, session 1: ? ? ? ? ? =+;\
+    nominate at 4, party 1, other 1, right 2, side 1: ? ? ? ? ? =+;\
+    match at 4, direction 1, session 1 =+;\
+    left of direction|profile 1, hour 1 =+;\
+    right 2 =+;\
+    confirmed of right 2, out 1, in 1 =+;\
+";
 
 // Kinds of lines.
 pub const OPEN: usize = 0;
