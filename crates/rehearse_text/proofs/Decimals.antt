@@ -30,7 +30,7 @@ grows v (b ∷ bs) = go (isDigit b) (grows (v * 10 + (b - 48)) bs)
     go true h = omega arith
     go false h = omega arith
 
-large : (n : ℕ) → 4294967296 ≤ n → capped n ≡ 4294967296
+pub large : (n : ℕ) → 4294967296 ≤ n → capped n ≡ 4294967296
 large n h = rw (le-ltb n 4294967296 h)
 
 pub small : (n : ℕ) → n ≤ 4294967296 → n ≡ capped n

@@ -1,14 +1,16 @@
 -- `rehearse_text::input::cap` meets its contract.
 -- Assumes nothing.
-use borrow.Author.Tests.{lt-ltb, le-ltb}
+use mathlib.Core.Path.{sym}
+use native.Mathlib.Omega.{arith}
+use Rattle.rehearse_text.proofs.Decimals.{small, large}
 use Rattle.rehearse_text.proofs.input.cap.Statement.{statement}
 use Rattle.rehearse_text.proofs.input.cap.Tie as tie
 
 returns : tie.Need-returns
-returns c = simp (lt-ltb _ _ (c .if1 .taken))
+returns c = small (c .before .args .number) (omega arith)
 
 returns-2 : tie.Need-returns-2
-returns-2 c = simp (le-ltb _ _ (c .if1 .left))
+returns-2 c = sym (large (c .before .args .number) (omega arith))
 
 pub cap-spec : {M : Type 1} → statement M
 cap-spec = tie.close (tie.spec returns returns-2)
