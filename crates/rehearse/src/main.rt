@@ -1,6 +1,4 @@
 // Reads a day of calls in words from standard input, and prints each line with its answer.
-ghost use mathlib.Core.Path.{_≡_};
-ghost use lib.ListN.{length};
 use cells::Book;
 use rehearse_answers::Outcome;
 use rehearse_answers::Turn;

@@ -1,7 +1,7 @@
 // The call or read that a line makes. Its numbers fit their fields.
 ghost use mathlib.Core.Path.{_≡_};
-ghost use Prim.Native.Nat.{_≤_, _%_};
-ghost use Rattle.answers.specs.Promises.{Opens, Answers, ReadsRight, ReadsConfirmed};
+ghost use Prim.Native.Nat.{_≤_};
+ghost use Rattle.answers.specs.Promises.{Opens, Answers, ReadsDirection, ReadsProfile, ReadsRight, ReadsConfirmed};
 ghost use Rattle.rehearse_answers.specs.Made.{byteAt, twoAt, fiveFrom, offerOf, bidOf, nominateOf, matchOf, directionOf, callOf};
 use answers::ConfirmedRead;
 use answers::LeftRead;
@@ -123,13 +123,16 @@ pub fn call(
 
 // ---- reads
 
-pub fn left(book: &Book, profile: bool, given: [u64; 10]) -> LeftRead {
-    let number = (given[0] % 256) as u8;
-    let hour = Hour((given[1] % 256) as u8);
-    if profile {
-        return daybook::left_of_profile(book, number, hour);
-    }
-    daybook::left_of_direction(book, number, hour)
+pub fn left_of_direction(book: &Book, given: [u64; 10]) -> LeftRead
+    ensures { λ r. ⌜ ReadsDirection (now (book .entry)) (byteAt given 0) (byteAt given 1) r ⌝ }
+{
+    daybook::left_of_direction(book, (given[0] % 256) as u8, Hour((given[1] % 256) as u8))
+}
+
+pub fn left_of_profile(book: &Book, given: [u64; 10]) -> LeftRead
+    ensures { λ r. ⌜ ReadsProfile (now (book .entry)) (byteAt given 0) (byteAt given 1) r ⌝ }
+{
+    daybook::left_of_profile(book, (given[0] % 256) as u8, Hour((given[1] % 256) as u8))
 }
 
 pub fn right(book: &Book, given: [u64; 10]) -> RightRead

@@ -98,11 +98,19 @@ fn call(book: &mut Book, line: &[u8], found: Found) -> Answer {
     )
 }
 
+fn left(book: &Book, found: Found) -> LeftRead {
+    let given = found.given.values;
+    if found.is_profile {
+        return calls::left_of_profile(book, given);
+    }
+    calls::left_of_direction(book, given)
+}
+
 fn numbers(book: &mut Book, line: &[u8], found: Found) -> Numbers {
     let given = found.given.values;
     let kind = found.kind;
     match kind {
-        rehearse_lines::LEFT => of_left(calls::left(book, found.is_profile, given)),
+        rehearse_lines::LEFT => of_left(left(book, found)),
         rehearse_lines::RIGHT => of_right(calls::right(book, given)),
         rehearse_lines::CONFIRMED => of_confirmed(calls::confirmed(book, given)),
         _ => of_answer(call(book, line, found)),

@@ -1,3 +1,5 @@
+-- `rehearse_text::input::fits` meets its contract.
+-- Assumes nothing.
 use borrow.Author.Needs.{needs}
 use Rattle.rehearse_text.proofs.input.fits.Statement.{statement}
 use Rattle.rehearse_text.proofs.input.fits.Tie as tie
