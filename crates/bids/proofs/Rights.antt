@@ -31,7 +31,7 @@ use Rattle.cells.specs.declared.Found.the-variants.{At, Nothing}
 use Rattle.bids.specs.declared.Entry.{Entry}
 use Rattle.bids.specs.declared.Entry.the-variants.{Full, Room, Standing}
 use Rattle.bids.proofs.Entry.{the-type}
-use Rattle.bids.specs.Work.{standingIn, rightFor, entryOf, entryIn, isFull, Enters, Opened, Booked, readOf}
+use Rattle.bids.specs.Work.{standingRight, rightFor, entryOf, entryIn, isFull, Enters, NewRight, Booked, readOf}
 
 -- ---- the search
 
@@ -39,17 +39,17 @@ abbrev place : List ℕ → ℕ → ℕ → ℕ → ℕ
 place b h d s = placeOf (isRightOf h d s) (bookOf b .rights)
 
 -- a standing right was found, or none
-found-at : (b : List ℕ) (h d s i : ℕ) → standingIn b h d s ≡ At i → (i ≡ place b h d s) × (i < counted b RIGHTS rightLimit)
-unfolding standingIn bookOf rightsIn
+found-at : (b : List ℕ) (h d s i : ℕ) → standingRight b h d s ≡ At i → (i ≡ place b h d s) × (i < counted b RIGHTS rightLimit)
+unfolding standingRight bookOf rightsIn
 found-at b h d s i e = first-at (isRightOf h d s) (rightAt b) (counted b RIGHTS rightLimit) i e
 
-found-none : (b : List ℕ) (h d s : ℕ) → standingIn b h d s ≡ Nothing → length (bookOf b .rights) ≤ place b h d s
-unfolding standingIn bookOf rightsIn
+found-none : (b : List ℕ) (h d s : ℕ) → standingRight b h d s ≡ Nothing → length (bookOf b .rights) ≤ place b h d s
+unfolding standingRight bookOf rightsIn
 found-none b h d s e = rw (right-count b) (first-none (isRightOf h d s) (rightAt b) (counted b RIGHTS rightLimit) e)
 
 -- it depends on the rights alone
-standing-is : (b : List ℕ) (h d s : ℕ) → standingIn b h d s ≡ cond (ltb (place b h d s) (length (bookOf b .rights))) (At (place b h d s)) Nothing
-unfolding standingIn bookOf rightsIn
+standing-is : (b : List ℕ) (h d s : ℕ) → standingRight b h d s ≡ cond (ltb (place b h d s) (length (bookOf b .rights))) (At (place b h d s)) Nothing
+unfolding standingRight bookOf rightsIn
 standing-is b h d s = rw (right-count b) (found-is (isRightOf h d s) (rightAt b) (counted b RIGHTS rightLimit))
 
 taken-is : (b : List ℕ) (h d s : ℕ) → rightTaken h d s (bookOf b .rights) ≡ ltb (place b h d s) (length (bookOf b .rights))
@@ -112,11 +112,11 @@ module _ {b : List ℕ} {model h d s : ℕ} {e : Entry} (k : Enters b model h d 
 -- ---- the right that takes the MW
 
 module _ (b : List ℕ) (model h d s i : ℕ) (e : rightFor b model h d s ≡ At i) where
-  stands : (eqb model 1 ≡ false) × (standingIn b h d s ≡ At i)
+  stands : (eqb model 1 ≡ false) × (standingRight b h d s ≡ At i)
   unfolding rightFor
   stands = go (eqb model 1) e
     where
-      go : (t : Bool) → cond t Nothing (standingIn b h d s) ≡ At i → (t ≡ false) × (standingIn b h d s ≡ At i)
+      go : (t : Bool) → cond t Nothing (standingRight b h d s) ≡ At i → (t ≡ false) × (standingRight b h d s ≡ At i)
       go true z = absurd (let n : _≡_ {A = ℕ} 0 1 = cc in omega arith)
       go false z = (refl, z)
 
@@ -135,7 +135,7 @@ module _ (b : List ℕ) (model h d s : ℕ) (mw : List ℕ) where
     unfolding withRight rightFor
     new-right = go (eqb model 1) n
       where
-        go : (t : Bool) → cond t Nothing (standingIn b h d s) ≡ Nothing → cond t (bookOf b .rights ++ (new ∷ [])) (addedRight h d s mw (bookOf b .rights)) ≡ bookOf b .rights ++ (new ∷ [])
+        go : (t : Bool) → cond t Nothing (standingRight b h d s) ≡ Nothing → cond t (bookOf b .rights ++ (new ∷ [])) (addedRight h d s mw (bookOf b .rights)) ≡ bookOf b .rights ++ (new ∷ [])
         go true e = refl
         go false e = added-right h d s mw (bookOf b .rights) ∙ changed-new (isRightOf h d s) (raised mw) new (bookOf b .rights) (found-none b h d s e)
 
@@ -143,14 +143,14 @@ module _ (b : List ℕ) (model h d s : ℕ) (mw : List ℕ) where
     unfolding rightNumber rightFor
     new-number = go (eqb model 1) n
       where
-        go : (t : Bool) → cond t Nothing (standingIn b h d s) ≡ Nothing → cond t (length (bookOf b .rights)) (rightFrom h d s (bookOf b .rights)) ≡ length (bookOf b .rights)
+        go : (t : Bool) → cond t Nothing (standingRight b h d s) ≡ Nothing → cond t (length (bookOf b .rights)) (rightFrom h d s (bookOf b .rights)) ≡ length (bookOf b .rights)
         go true e = refl
         go false e =
             let l = found-none b h d s e in
             let q = place-le (isRightOf h d s) (bookOf b .rights) in
             right-from h d s (bookOf b .rights) ∙ omega arith
 
-    pub opened-books : (b′ : List ℕ) (i : ℕ) → counted b RIGHTS rightLimit < rightLimit → Opened b h d s mw i b′ → Booked b model h d s mw i b′
+    pub opened-books : (b′ : List ℕ) (i : ℕ) → counted b RIGHTS rightLimit < rightLimit → NewRight b h d s mw i b′ → Booked b model h d s mw i b′
     opened-books b′ i l o =
         let m : i < rightLimit = rw (o .number-is) l in
         record {

@@ -33,12 +33,12 @@ use Rattle.bids.specs.declared.BidVerdict.the-variants.{Clear, No}
 
 -- ---- the standing right
 
-unfoldable pub standingIn : List ℕ → ℕ → ℕ → ℕ → Found
-standingIn b h d s = firstRow (isRightOf h d s) (rightAt b) (counted b RIGHTS rightLimit)
+unfoldable pub standingRight : List ℕ → ℕ → ℕ → ℕ → Found
+standingRight b h d s = firstRow (isRightOf h d s) (rightAt b) (counted b RIGHTS rightLimit)
 
 -- the right that takes the MW of a bid: none in the one-hour model
 unfoldable pub rightFor : List ℕ → ℕ → ℕ → ℕ → ℕ → Found
-rightFor b model h d s = cond (eqb model 1) Nothing (standingIn b h d s)
+rightFor b model h d s = cond (eqb model 1) Nothing (standingRight b h d s)
 
 -- ---- the entry of a bid
 
@@ -85,7 +85,7 @@ pub record Searched (b : List ℕ) (model d s : ℕ) (mw : List ℕ) (r : Search
 
 -- ---- the right of a granted bid
 
-pub record Opened (b : List ℕ) (h d s : ℕ) (mw : List ℕ) (n : ℕ) (b′ : List ℕ) : Type 0 where
+pub record NewRight (b : List ℕ) (h d s : ℕ) (mw : List ℕ) (n : ℕ) (b′ : List ℕ) : Type 0 where
   pub cells : Cells b
   pub mw-five : length mw ≡ 5
   pub bytes : (h < 256) × (d < 256) × (s < 256)

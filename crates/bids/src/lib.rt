@@ -15,7 +15,7 @@ ghost use Rattle.rules.specs.declared.Answer.the-variants.{Granted};
 ghost use Rattle.cells.specs.Layout.{PARTIES, RIGHTS};
 ghost use Rattle.cells.specs.View.{cell, bookOf, counted, directionAt, rightAt};
 ghost use Rattle.answers.specs.Promises.{Answers, ReadsRight};
-ghost use Rattle.bids.specs.Work.{standingIn, rightFor, entryIn, Enters, Cleared, JudgedBid, Session-known, Searched, Opened, Booked, Placed, readOf};
+ghost use Rattle.bids.specs.Work.{standingRight, rightFor, entryIn, Enters, Cleared, JudgedBid, Session-known, Searched, NewRight, Booked, Placed, readOf};
 use answers::RightRead;
 use capacity::Search;
 use cells::Book;
@@ -107,7 +107,7 @@ fn same_right(book: &Book, right: u16, holder: u8, direction: u8, session: Sessi
 
 // The first right of a holder, direction and session.
 fn standing(book: &Book, holder: u8, direction: u8, session: Session) -> Found
-    ensures { λ r. ⌜ r ≡ standingIn (now (book .entry)) holder direction (session .0) ⌝ }
+    ensures { λ r. ⌜ r ≡ standingRight (now (book .entry)) holder direction (session .0) ⌝ }
 {
     let count = cells::count_in(book, cells::RIGHTS, cells::RIGHT_LIMIT);
     for i in 0..count {
@@ -199,7 +199,7 @@ fn bid_verdict(
 // A new right with the MW of a bid: its number.
 fn open_right(book: &mut Book, holder: u8, direction: u8, session: Session, mw: [u16; 5]) -> u32
     requires { ⌜ counted (now book) RIGHTS rightLimit < rightLimit ⌝ }
-    ensures { λ r. ⌜ Opened (now (book .entry)) holder direction (session .0) mw r (now (book .exit)) ⌝ }
+    ensures { λ r. ⌜ NewRight (now (book .entry)) holder direction (session .0) mw r (now (book .exit)) ⌝ }
 {
     cells::cells_in(book);
     let count = cells::count_in(book, cells::RIGHTS, cells::RIGHT_LIMIT);

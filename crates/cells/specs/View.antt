@@ -10,13 +10,15 @@ use Rattle.rules.specs.Book.{Direction, Party, Right, Pair, Book, place, direct
 use Rattle.cells.specs.Loops.{rows}
 use Rattle.cells.specs.Layout.{CELLS, HOURS, WEEKDAY, CLOCK, STARTED, DIRECTIONS, PROFILES, PARTIES, OFFERED, GRANTED, MATCHED, RIGHTS, PAIRS}
 
+-- cell number i, 0 past the last
 abbrev pub cell : List ℕ → ℕ → ℕ
 cell b i = getD b i 0
 
--- n cells from cell `at` on
+-- cell number i of those from cell `at` on
 unfoldable pub cellFrom : List ℕ → ℕ → ℕ → ℕ
 cellFrom b at i = cell b (at + i)
 
+-- n cells from cell `at` on
 unfoldable pub part : List ℕ → ℕ → ℕ → List ℕ
 part b at n = rows (cellFrom b at) n 0
 
@@ -40,22 +42,28 @@ pub record Sound (b : List ℕ) (n : ℕ) : Type 0 where
   pub count : n ≡ length b
   pub each : (i : ℕ) → i < length b → cell b i < 2 ^ 32
 
+-- the same of a whole book
 pub record Cells (b : List ℕ) : Type 0 where
   pub count : length b ≡ CELLS
   pub each : (i : ℕ) → i < CELLS → cell b i < 2 ^ 32
 
+-- ---- what cells hold, whatever they are
+
+-- the count of hours: any number but 23 and 25 is read as 24
 unfoldable pub dayHoursIn : List ℕ → ℕ
 dayHoursIn b = cond (eqb (cell b HOURS) 23) 23 (cond (eqb (cell b HOURS) 25) 25 24)
 
 abbrev pub weekdayIn : List ℕ → ℕ
 weekdayIn b = cell b WEEKDAY
 
+-- a timed call was granted: any number but 0
 abbrev pub startedIn : List ℕ → Bool
 startedIn b = not (eqb (cell b STARTED) 0)
 
 abbrev pub clockIn : List ℕ → ℕ
 clockIn b = cell b CLOCK
 
+-- row i of the directions, and the table
 abbrev pub directionAt : List ℕ → ℕ → Direction
 directionAt b i =
     record { out = cell b (DIRECTIONS + 1 + i * 3); into = cell b (DIRECTIONS + 2 + i * 3); model = cell b (DIRECTIONS + 3 + i * 3) }
@@ -63,15 +71,18 @@ directionAt b i =
 unfoldable pub directionsIn : List ℕ → List Direction
 directionsIn b = rows (directionAt b) (counted b DIRECTIONS directionLimit) 0
 
+-- the maps of the profiles
 unfoldable pub profilesIn : List ℕ → List ℕ
 profilesIn b = part b (PROFILES + 1) (counted b PROFILES profileLimit)
 
+-- row i of the parties, and the table
 unfoldable pub partyAt : List ℕ → ℕ → Party
 partyAt b i = record { code = part b (PARTIES + 1 + i * 17) 16; access = cell b (PARTIES + 17 + i * 17) }
 
 unfoldable pub partiesIn : List ℕ → List Party
 partiesIn b = rows (partyAt b) (counted b PARTIES partyLimit) 0
 
+-- offers, granted MW and matched sessions: 32 rows of 25 hours, 24 rows of 25 sessions
 unfoldable pub offeredIn : List ℕ → List ℕ
 offeredIn b = part b OFFERED 800
 
@@ -81,7 +92,7 @@ grantedIn b = part b GRANTED 800
 unfoldable pub matchedIn : List ℕ → List ℕ
 matchedIn b = part b MATCHED 600
 
--- numbers of parties, directions and sessions are bytes
+-- row i of the rights, and the table; numbers of parties, directions and sessions are bytes
 unfoldable pub rightAt : List ℕ → ℕ → Right
 rightAt b i =
     record {
@@ -94,6 +105,7 @@ rightAt b i =
 unfoldable pub rightsIn : List ℕ → List Right
 rightsIn b = rows (rightAt b) (counted b RIGHTS rightLimit) 0
 
+-- row i of the pairs, and the table
 unfoldable pub pairAt : List ℕ → ℕ → Pair
 pairAt b i =
     record {
@@ -107,6 +119,7 @@ pairAt b i =
 unfoldable pub pairsIn : List ℕ → List Pair
 pairsIn b = rows (pairAt b) (counted b PAIRS pairLimit) 0
 
+-- the book of the rules that the cells hold
 unfoldable pub bookOf : List ℕ → Book
 bookOf b =
     record {

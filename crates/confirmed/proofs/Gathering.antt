@@ -17,7 +17,7 @@ use Rattle.rules.specs.Nominations.{lowerTotal}
 use Rattle.cells.specs.Layout.{PAIRS}
 use Rattle.cells.specs.Loops.{rows}
 use Rattle.cells.specs.View.{cell, counted, pairAt, pairsIn, bookOf}
-use Rattle.totals.specs.declared.Pair.{Pair}
+use Rattle.totals.specs.declared.PairLower.{PairLower}
 use Rattle.totals.specs.Total.{lowerOf, sumOf, totalLower, totals}
 use Rattle.totals.proofs.Sums.{sum-snoc}
 use Rattle.confirmed.specs.Work.{Gathered, lowerIn, totalIn}
@@ -59,7 +59,7 @@ unfolding pairAt
 of-right b r i e = eq-eqb _ _ e
 
 -- a row of the right is written after the first n, and is taken from the rest of the table
-pub gather-next : (b : List ℕ) (r k last i : ℕ) (l : List Pair) (n : ℕ) (p : Pair) → k < 5 → i < last → n < length l → p .lower ≡ five (lowerIn b i) → cell b (PAIRS + 1 + i * 13) ≡ r
+pub gather-next : (b : List ℕ) (r k last i : ℕ) (l : List PairLower) (n : ℕ) (p : PairLower) → k < 5 → i < last → n < length l → p .lower ≡ five (lowerIn b i) → cell b (PAIRS + 1 + i * 13) ≡ r
     → totalLower k (take (n + 1) (set l n p)) + lowerTotal r k (rows (pairAt b) (last - (i + 1)) (i + 1)) ≡ totalLower k (take n l) + lowerTotal r k (rows (pairAt b) (last - i) i)
 unfolding rows lowerTotal
 gather-next b r k last i l n p m h u e f =

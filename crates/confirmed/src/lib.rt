@@ -10,11 +10,11 @@ use answers::ConfirmedRead;
 use cells::Book;
 use cells::Found;
 use rules::Answer;
-use totals::Pair;
+use totals::PairLower;
 
 // The pairs of one right: the first `count` of the array.
 struct PairList {
-    pairs: [Pair; totals::MOST],
+    pairs: [PairLower; totals::MOST],
     count: usize,
 }
 
@@ -35,7 +35,7 @@ fn lower_at(book: &Book, i: u32, hour: usize) -> u32
 }
 
 // Row i of the table of pairs.
-fn pair_in(book: &Book, i: u32) -> Pair
+fn pair_in(book: &Book, i: u32) -> PairLower
     requires { ⌜ i < pairLimit ⌝ }
     ensures { λ r. ⌜ r .lower ≡ five (lowerIn (now (book .entry)) i) ⌝ }
 {
@@ -46,14 +46,14 @@ fn pair_in(book: &Book, i: u32) -> Pair
         lower_at(book, i, 3),
         lower_at(book, i, 4),
     ];
-    Pair { lower: lower }
+    PairLower { lower: lower }
 }
 
 // The pairs of one right, in the order of the table.
 fn pairs_of(book: &Book, right: u32) -> PairList
     ensures { λ r. ⌜ Gathered (now (book .entry)) right r ⌝ }
 {
-    let none = Pair { lower: [0; 5] };
+    let none = PairLower { lower: [0; 5] };
     let mut pairs = [none; totals::MOST];
     let mut count: usize = 0;
     let entries = cells::count_in(book, cells::PAIRS, cells::PAIR_LIMIT);

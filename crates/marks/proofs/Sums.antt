@@ -19,7 +19,7 @@ use Rattle.cells.specs.View.{cell, counted, rightAt, pairAt, pairsIn, bookOf}
 use Rattle.cells.proofs.Stores.{part-at}
 use Rattle.cells.proofs.Turns.{each-start, each-next, each-done}
 use Rattle.cells.proofs.Views.{right-at}
-use Rattle.marks.specs.Totals.{shareOf, addPair, Bounded, Added, Summed}
+use Rattle.marks.specs.Totals.{shareOf, addPair, Bounded, SumsWith, Summed}
 
 -- ---- one pair
 
@@ -52,7 +52,7 @@ Share b k side hour x = (x ≡ getD (sideOf side (pairAt b k)) hour 0) × (x ≤
 
 module _ (b : List ℕ) (k r side : ℕ) (totals : List ℕ) (u : Bounded k totals) where
   -- of another right
-  pub none-added : cell b (PAIRS + 1 + k * 13) ≢ r → Added b k r side totals totals
+  pub none-added : cell b (PAIRS + 1 + k * 13) ≢ r → SumsWith b k r side totals totals
   unfolding shareOf pairAt
   none-added e =
       record {
@@ -68,7 +68,7 @@ module _ (b : List ℕ) (k r side : ℕ) (totals : List ℕ) (u : Bounded k tota
     one-added hour x l p = (rw (eq-eqb (cell b (PAIRS + 1 + k * 13)) r e, p .0) refl, omega (arith, u hour l))
 
     pub five-added : (f g h i j : ℕ) → Share b k side 0 f → Share b k side 1 g → Share b k side 2 h → Share b k side 3 i → Share b k side 4 j
-        → Added b k r side totals ((getD totals 0 0 + f) ∷ (getD totals 1 0 + g) ∷ (getD totals 2 0 + h) ∷ (getD totals 3 0 + i) ∷ (getD totals 4 0 + j) ∷ [])
+        → SumsWith b k r side totals ((getD totals 0 0 + f) ∷ (getD totals 1 0 + g) ∷ (getD totals 2 0 + h) ∷ (getD totals 3 0 + i) ∷ (getD totals 4 0 + j) ∷ [])
     five-added f g h i j p q s t v =
         let sums : List ℕ = (getD totals 0 0 + f) ∷ (getD totals 1 0 + g) ∷ (getD totals 2 0 + h) ∷ (getD totals 3 0 + i) ∷ (getD totals 4 0 + j) ∷ [] in
         let all = in-five (λ hour. (getD sums hour 0 ≡ getD totals hour 0 + shareOf r side hour (pairAt b k)) × (getD sums hour 0 ≤ (k + 1) * 4294967295))

@@ -23,7 +23,7 @@ abbrev pub Bounded : ℕ → List ℕ → Type 0
 Bounded i totals = (hour : ℕ) → hour < 5 → getD totals hour 0 ≤ i * 4294967295
 
 -- the totals of the pairs before number i, with what pair i adds in each hour
-pub record Added (b : List ℕ) (i r side : ℕ) (totals sums : List ℕ) : Type 0 where
+pub record SumsWith (b : List ℕ) (i r side : ℕ) (totals sums : List ℕ) : Type 0 where
   pub sums-are : (hour : ℕ) → hour < 5 → getD sums hour 0 ≡ getD totals hour 0 + shareOf r side hour (pairAt b i)
   pub bounded : Bounded (i + 1) sums
 

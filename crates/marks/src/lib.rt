@@ -8,7 +8,7 @@ ghost use Rattle.rules.specs.Book.{pairLimit, rightLimit};
 ghost use Rattle.rules.specs.Nominations.{sideOf, marks};
 ghost use Rattle.cells.specs.Layout.{RIGHTS};
 ghost use Rattle.cells.specs.View.{pairAt, counted, bookOf};
-ghost use Rattle.marks.specs.Totals.{Bounded, Added, Summed};
+ghost use Rattle.marks.specs.Totals.{Bounded, SumsWith, Summed};
 use cells::Book;
 
 // The MW of one side of a pair in an hour of the session.
@@ -22,7 +22,7 @@ fn side_mw(book: &Book, i: u32, side: u8, hour: u8) -> u32
 // The totals of the pairs before number i, with those of pair i added where it is of the right.
 fn with_share(book: &Book, i: u32, right: u32, side: u8, totals: [u64; 5]) -> [u64; 5]
     requires { ⌜ (i < pairLimit) × ((side ≤ 1) × Bounded i totals) ⌝ }
-    ensures { λ r. ⌜ Added (now (book .entry)) i right side totals r ⌝ }
+    ensures { λ r. ⌜ SumsWith (now (book .entry)) i right side totals r ⌝ }
 {
     if book[cells::PAIRS + 1 + i as usize * 13] != right {
         return totals;

@@ -32,12 +32,12 @@ use Rattle.cells.proofs.Pairs.{with-pair, pair-more, side-replaced}
 use Rattle.cells.proofs.Views.{right-count, pair-count, pair-at, has-room}
 use Rattle.cells.specs.declared.Found.{Found}
 use Rattle.cells.specs.declared.Found.the-variants.{At, Nothing}
-use Rattle.pairs.specs.Search.{standingIn}
+use Rattle.pairs.specs.Search.{standingPair}
 use Rattle.pairs.proofs.Searches.{standing-at, standing-none}
 use Rattle.answers.specs.Promises.{Answers}
 use Rattle.answers.proofs.Laws.{granted}
 use Rattle.nominations.proofs.Verdicts.{known-nomination}
-use Rattle.nominations.specs.Work.{isMissing, Enters, Opened, PairThere, Placed}
+use Rattle.nominations.specs.Work.{isMissing, Enters, NewPair, PairThere, Placed}
 
 -- what a nomination that nothing refuses may rely on
 pub record Ready (b : List ℕ) (r side : ℕ) : Type 0 where
@@ -56,7 +56,7 @@ ready b t p o r side mw g =
 -- ---- the pair
 
 -- one that the search found
-pub found-there : (b : List ℕ) (r o i k : ℕ) → length b ≡ CELLS → standingIn b r o i ≡ At k → PairThere b r o i k b
+pub found-there : (b : List ℕ) (r o i k : ℕ) → length b ≡ CELLS → standingPair b r o i ≡ At k → PairThere b r o i k b
 found-there b r o i k u e =
     let f = standing-at b r o i k e in
     let p = f .place-is in
@@ -74,9 +74,9 @@ found-there b r o i k u e =
 pub room-left : {b : List ℕ} {r o i : ℕ} {f : Found} → Enters b r o i f → f ≡ Nothing → counted b PAIRS pairLimit < pairLimit
 room-left {b} {f = f} k e = rw (pair-count b) at (has-room (length (bookOf b .pairs)) pairLimit (isMissing f) (k .free) (rw e))
 
-module _ (b : List ℕ) (r o i : ℕ) (e : standingIn b r o i ≡ Nothing) where
+module _ (b : List ℕ) (r o i : ℕ) (e : standingPair b r o i ≡ Nothing) where
   -- a new one
-  module _ (n : ℕ) (b′ : List ℕ) (l : counted b PAIRS pairLimit < pairLimit) (w : Opened b r o i n b′) where
+  module _ (n : ℕ) (b′ : List ℕ) (l : counted b PAIRS pairLimit < pairLimit) (w : NewPair b r o i n b′) where
     here : n ≡ length (bookOf b .pairs)
     here = w .number-is ∙ sym (pair-count b)
 

@@ -17,7 +17,7 @@ use Rattle.cells.specs.View.{counted, bookOf}
 use Rattle.cells.specs.declared.Found.{Found}
 use Rattle.cells.specs.declared.Found.the-variants.{At, Nothing}
 use Rattle.cells.proofs.Views.{party-count, right-count}
-use Rattle.pairs.specs.Search.{standingIn}
+use Rattle.pairs.specs.Search.{standingPair}
 use Rattle.pairs.proofs.Searches.{standing-at, standing-none}
 use Rattle.answers.proofs.Laws.{Left}
 use Rattle.nominations.specs.Work.{isMissing}
@@ -42,11 +42,11 @@ known-nomination b p o r e =
 
 -- ---- 13
 
-missing-is : (b : List ℕ) (r o i : ℕ) (f : Found) → f ≡ standingIn b r o i → isMissing f ≡ not (pairTaken r o i (bookOf b .pairs))
+missing-is : (b : List ℕ) (r o i : ℕ) (f : Found) → f ≡ standingPair b r o i → isMissing f ≡ not (pairTaken r o i (bookOf b .pairs))
 missing-is b r o i (At k) e = rw (standing-at b r o i k (sym e) .there)
 missing-is b r o i Nothing e = rw (standing-none b r o i (sym e) .none)
 
 -- the test of what was found is that of the rules
-pub full-is : (b : List ℕ) (r o i : ℕ) {f : Found} {x : Bool} → f ≡ standingIn b r o i → (leb pairLimit (length (bookOf b .pairs)) && isMissing f) ≡ x
+pub full-is : (b : List ℕ) (r o i : ℕ) {f : Found} {x : Bool} → f ≡ standingPair b r o i → (leb pairLimit (length (bookOf b .pairs)) && isMissing f) ≡ x
     → (leb pairLimit (length (bookOf b .pairs)) && not (pairTaken r o i (bookOf b .pairs))) ≡ x
 full-is b r o i {f} e h = rw (← missing-is b r o i f e) h

@@ -19,7 +19,7 @@ use Rattle.cells.specs.Stores.{withRow}
 use Rattle.cells.specs.Updates.{withPairs}
 use Rattle.cells.specs.declared.Found.{Found}
 use Rattle.cells.specs.declared.Found.the-variants.{At, Nothing}
-use Rattle.pairs.specs.Search.{standingIn}
+use Rattle.pairs.specs.Search.{standingPair}
 use Rattle.answers.specs.declared.Verdict.the-variants.{No as Refused}
 use Rattle.answers.specs.Promises.{Judged}
 use Rattle.nominations.specs.declared.NominationVerdict.{NominationVerdict}
@@ -49,7 +49,7 @@ isMissing Nothing = true
 
 -- what the search for the pair found, and 13 does not refuse
 pub record Enters (b : List ℕ) (r o i : ℕ) (f : Found) : Type 0 where
-  pub found-is : f ≡ standingIn b r o i
+  pub found-is : f ≡ standingPair b r o i
   pub free : (leb pairLimit (length (bookOf b .pairs)) && isMissing f) ≡ false
 
 -- nothing is against the nomination, and this was found of its pair
@@ -65,7 +65,7 @@ JudgedNomination b time sender other r side mw (No a) = Judged (bookOf b) (Nomin
 -- ---- the pair of a granted nomination
 
 -- a new pair with no MW
-pub record Opened (b : List ℕ) (r o i n : ℕ) (b′ : List ℕ) : Type 0 where
+pub record NewPair (b : List ℕ) (r o i n : ℕ) (b′ : List ℕ) : Type 0 where
   pub cells : Cells b
   pub number-is : n ≡ counted b PAIRS pairLimit
   pub cells-are : b′ ≡ withRow PAIRS n (r ∷ o ∷ i ∷ (noMw ++ noMw)) b

@@ -13,9 +13,9 @@ ghost use Rattle.rules.specs.Nominations.{outOf, intoOf};
 ghost use Rattle.rules.specs.Refusals.{partyUnknown, rightUnknown, hoursLacking};
 ghost use Rattle.cells.specs.Layout.{PARTIES, RIGHTS, PAIRS};
 ghost use Rattle.cells.specs.View.{bookOf, counted};
-ghost use Rattle.pairs.specs.Search.{standingIn};
+ghost use Rattle.pairs.specs.Search.{standingPair};
 ghost use Rattle.answers.specs.Promises.{Answers};
-ghost use Rattle.nominations.specs.Work.{rightHolder, rightDirection, rightSession, operatorOf, isMissing, Enters, Cleared, JudgedNomination, Opened, PairThere, Placed};
+ghost use Rattle.nominations.specs.Work.{rightHolder, rightDirection, rightSession, operatorOf, isMissing, Enters, Cleared, JudgedNomination, NewPair, PairThere, Placed};
 use cells::Book;
 use cells::Found;
 use rules::Answer;
@@ -151,7 +151,7 @@ fn not_owner(book: &Book, sender: u8, other: u8, right: u16) -> bool
 
 // The search for the pair of a nomination.
 fn nominated_pair(book: &Book, sender: u8, other: u8, right: u16, side: u8) -> Found
-    ensures { λ r. ⌜ r ≡ standingIn (now (book .entry)) right (outOf sender other side) (intoOf sender other side) ⌝ }
+    ensures { λ r. ⌜ r ≡ standingPair (now (book .entry)) right (outOf sender other side) (intoOf sender other side) ⌝ }
 {
     let out = out_party(sender, other, side);
     let into = in_party(sender, other, side);
@@ -214,7 +214,7 @@ fn nomination_verdict(
 // A new pair with no MW: its number.
 fn open_pair(book: &mut Book, right: u32, out: u32, into: u32) -> u32
     requires { ⌜ counted (now book) PAIRS pairLimit < pairLimit ⌝ }
-    ensures { λ r. ⌜ Opened (now (book .entry)) right out into r (now (book .exit)) ⌝ }
+    ensures { λ r. ⌜ NewPair (now (book .entry)) right out into r (now (book .exit)) ⌝ }
 {
     cells::cells_in(book);
     let count = cells::count_in(book, cells::PAIRS, cells::PAIR_LIMIT);

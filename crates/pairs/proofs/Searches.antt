@@ -17,19 +17,19 @@ use Rattle.cells.proofs.Firsts.{placeOf, some-is, first-at, first-none}
 use Rattle.cells.proofs.Views.{pair-count, pair-at}
 use Rattle.cells.proofs.Pairs.{pair-taken, pair-from}
 use Rattle.cells.specs.declared.Found.the-variants.{At, Nothing}
-use Rattle.pairs.specs.Search.{standingIn}
+use Rattle.pairs.specs.Search.{standingPair}
 
 -- where the pair stands, or the length of the table
 abbrev pub place : List ℕ → ℕ → ℕ → ℕ → ℕ
 place b r o i = placeOf (isPairOf r o i) (bookOf b .pairs)
 
 -- the number and the place of what was found
-found-at : (b : List ℕ) (r o i k : ℕ) → standingIn b r o i ≡ At k → (k ≡ place b r o i) × (k < counted b PAIRS pairLimit)
-unfolding standingIn bookOf pairsIn
+found-at : (b : List ℕ) (r o i k : ℕ) → standingPair b r o i ≡ At k → (k ≡ place b r o i) × (k < counted b PAIRS pairLimit)
+unfolding standingPair bookOf pairsIn
 found-at b r o i k e = first-at (isPairOf r o i) (pairAt b) (counted b PAIRS pairLimit) k e
 
-found-none : (b : List ℕ) (r o i : ℕ) → standingIn b r o i ≡ Nothing → counted b PAIRS pairLimit ≤ place b r o i
-unfolding standingIn bookOf pairsIn
+found-none : (b : List ℕ) (r o i : ℕ) → standingPair b r o i ≡ Nothing → counted b PAIRS pairLimit ≤ place b r o i
+unfolding standingPair bookOf pairsIn
 found-none b r o i e = first-none (isPairOf r o i) (pairAt b) (counted b PAIRS pairLimit) e
 
 -- a pair that the search found
@@ -40,7 +40,7 @@ pub record Standing (b : List ℕ) (r o i k : ℕ) : Type 0 where
   pub pair-is : pairOf r o i (bookOf b .pairs) ≡ pairAt b k
   pub place-is : place b r o i ≡ k
 
-pub standing-at : (b : List ℕ) (r o i k : ℕ) → standingIn b r o i ≡ At k → Standing b r o i k
+pub standing-at : (b : List ℕ) (r o i k : ℕ) → standingPair b r o i ≡ At k → Standing b r o i k
 standing-at b r o i k e =
     let f = found-at b r o i k e in
     let p : place b r o i ≡ k = sym (f .0) in
@@ -57,7 +57,7 @@ pub record Lacking (b : List ℕ) (r o i : ℕ) : Type 0 where
   pub none : pairTaken r o i (bookOf b .pairs) ≡ false
   pub past : length (bookOf b .pairs) ≤ place b r o i
 
-pub standing-none : (b : List ℕ) (r o i : ℕ) → standingIn b r o i ≡ Nothing → Lacking b r o i
+pub standing-none : (b : List ℕ) (r o i : ℕ) → standingPair b r o i ≡ Nothing → Lacking b r o i
 standing-none b r o i e =
     let p : length (bookOf b .pairs) ≤ place b r o i = rw (pair-count b) (found-none b r o i e) in
     record {

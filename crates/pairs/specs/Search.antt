@@ -10,5 +10,5 @@ use Rattle.cells.specs.View.{counted, pairAt}
 use Rattle.cells.specs.declared.Found.{Found}
 
 -- the first pair that is there
-unfoldable pub standingIn : List ℕ → ℕ → ℕ → ℕ → Found
-standingIn b r o i = firstRow (isPairOf r o i) (pairAt b) (counted b PAIRS pairLimit)
+unfoldable pub standingPair : List ℕ → ℕ → ℕ → ℕ → Found
+standingPair b r o i = firstRow (isPairOf r o i) (pairAt b) (counted b PAIRS pairLimit)

@@ -5,7 +5,7 @@ ghost use Rattle.rules.specs.Book.{pairLimit};
 ghost use Rattle.rules.specs.Nominations.{isPairOf};
 ghost use Rattle.cells.specs.Layout.{PAIRS};
 ghost use Rattle.cells.specs.View.{pairAt};
-ghost use Rattle.pairs.specs.Search.{standingIn};
+ghost use Rattle.pairs.specs.Search.{standingPair};
 use cells::Book;
 use cells::Found;
 
@@ -34,7 +34,7 @@ fn same_pair(book: &Book, i: u32, right: u32, out: u32, into: u32) -> bool
 
 // The first pair of a right, an out party and an in party.
 pub fn standing_pair(book: &Book, right: u32, out: u32, into: u32) -> Found
-    ensures { λ r. ⌜ r ≡ standingIn (now (book .entry)) right out into ⌝ }
+    ensures { λ r. ⌜ r ≡ standingPair (now (book .entry)) right out into ⌝ }
 {
     let count = cells::count_in(book, cells::PAIRS, cells::PAIR_LIMIT);
     for i in 0..count {

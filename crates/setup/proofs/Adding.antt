@@ -27,7 +27,7 @@ use Rattle.answers.specs.Promises.{Judged, Answers}
 use Rattle.answers.specs.declared.Verdict.{Verdict}
 use Rattle.answers.specs.declared.Verdict.the-variants.{Clear, No}
 use Rattle.answers.proofs.Laws.{Left, refused, granted}
-use Rattle.setup.specs.Work.{Added}
+use Rattle.setup.specs.Work.{Entered}
 
 -- ---- the numbers that can apply
 
@@ -64,7 +64,7 @@ module _ {b : List ℕ} {c : Call} {table limit : ℕ} {row : List ℕ} {v : Ver
   unfolding order has
   room = leb-false limit (counted b table limit) (sym (a .full-is) ∙ fails (is-granted (bookOf b) c (eq-eqb _ _ nothing-against)) 13 tt)
 
-  pub answers-number : {n : ℕ} {b′ : List ℕ} → Added b table limit row n b′ → Answers b c (Granted n) b′
+  pub answers-number : {n : ℕ} {b′ : List ℕ} → Entered b table limit row n b′ → Answers b c (Granted n) b′
   answers-number {n} {b′} p =
       granted b b′ c (Granted n) nothing-against
       (ap (λ (x : ℕ). said (Granted x)) (p .number-is ∙ sym (a .detail-is)))

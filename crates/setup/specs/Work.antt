@@ -11,7 +11,7 @@ use Rattle.cells.specs.View.{Cells, counted}
 use Rattle.cells.specs.Stores.{withRow}
 
 -- a row more in a table that has room
-pub record Added (b : List ℕ) (table limit : ℕ) (row : List ℕ) (n : ℕ) (b′ : List ℕ) : Type 0 where
+pub record Entered (b : List ℕ) (table limit : ℕ) (row : List ℕ) (n : ℕ) (b′ : List ℕ) : Type 0 where
   pub cells : Cells b
   pub number-is : n ≡ counted b table limit
   pub cells-are : b′ ≡ withRow table n row b

@@ -17,7 +17,7 @@ ghost use Rattle.rules.specs.Opening.{dayRefused};
 ghost use Rattle.cells.specs.Layout.{CELLS};
 ghost use Rattle.cells.specs.View.{bookOf, counted, directionAt, partyAt};
 ghost use Rattle.answers.specs.Promises.{Judged, Opens, Answers};
-ghost use Rattle.setup.specs.Work.{Added, sameOperators, clashes, sameCode};
+ghost use Rattle.setup.specs.Work.{Entered, sameOperators, clashes, sameCode};
 
 // ---- the day
 fn day_refused(hours: u8, weekday: u8) -> bool
@@ -61,7 +61,7 @@ fn setup_shut(book: &Book) -> bool
 // A row more in a table that has room: its number.
 fn place_row(book: &mut Book, table: usize, limit: u32, row: &[u32]) -> u32
     requires { ⌜ ((1 ≤ length (now row)) × (length (now row) ≤ 17)) × ((limit ≤ CELLS) × (table + 1 + limit * length (now row) ≤ CELLS)) × (counted (now book) table limit < limit) ⌝ }
-    ensures { λ r. ⌜ Added (now (book .entry)) table limit (now (row .entry)) r (now (book .exit)) ⌝ }
+    ensures { λ r. ⌜ Entered (now (book .entry)) table limit (now (row .entry)) r (now (book .exit)) ⌝ }
 {
     cells::cells_in(book);
     let count = cells::count_in(book, table, limit);

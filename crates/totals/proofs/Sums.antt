@@ -8,7 +8,7 @@ use mathlib.Core.List.{List, [], _∷_, _++_}
 use lib.ListN.{length, getD, take}
 use lib.Seq.{take-suc}
 use Rattle.rules.specs.Basics.{five}
-use Rattle.totals.specs.declared.Pair.{Pair}
+use Rattle.totals.specs.declared.PairLower.{PairLower}
 use Rattle.totals.specs.Total.{Most, lowerOf, sumIn, sumOf, totalLower, totals}
 
 module _ {X : Type 0} (f : X → ℕ) where
@@ -22,7 +22,7 @@ module _ {X : Type 0} (f : X → ℕ) where
   sum-next l i d h = rw (add-one, take-suc l i d, sum-snoc)
 
 -- one pair more
-module _ (l : List Pair) (i : ℕ) (d : Pair) (h : i < length l) where
+module _ (l : List PairLower) (i : ℕ) (d : PairLower) (h : i < length l) where
   pub totals-next : five (sumIn (totals (take i l)) (getD l i d)) ≡ totals (take (i + 1) l)
   totals-next = rw (sum-next (lowerOf 0) l i d h, sum-next (lowerOf 1) l i d h, sum-next (lowerOf 2) l i d h, sum-next (lowerOf 3) l i d h, sum-next (lowerOf 4) l i d h)
 

@@ -4,10 +4,10 @@ use Prim.Native.Nat.{ℕ, _+_, _≤_}
 use mathlib.Core.List.{List, [], _∷_}
 use lib.ListN.{getD}
 use Rattle.rules.specs.Basics.{five}
-use Rattle.totals.specs.declared.Pair.{Pair}
+use Rattle.totals.specs.declared.PairLower.{PairLower}
 
 -- the lower of the two sides in hour k of the session
-abbrev pub lowerOf : ℕ → Pair → ℕ
+abbrev pub lowerOf : ℕ → PairLower → ℕ
 lowerOf k x = getD (x .lower) k 0
 
 -- the sum of f over a list
@@ -16,15 +16,15 @@ sumOf f [] = 0
 sumOf f (x ∷ xs) = f x + sumOf f xs
 
 -- the sum over the pairs of the lower side in hour k
-abbrev pub totalLower : ℕ → List Pair → ℕ
+abbrev pub totalLower : ℕ → List PairLower → ℕ
 totalLower k xs = sumOf (lowerOf k) xs
 
 -- the sums over the pairs, hour by hour
-abbrev pub totals : List Pair → List ℕ
+abbrev pub totals : List PairLower → List ℕ
 totals xs = five (λ k. totalLower k xs)
 
 -- the sum of hour k with one pair more
-abbrev pub sumIn : List ℕ → Pair → ℕ → ℕ
+abbrev pub sumIn : List ℕ → PairLower → ℕ → ℕ
 sumIn sums x k = getD sums k 0 + lowerOf k x
 
 -- each of five numbers is at most n

@@ -10,7 +10,7 @@ ghost use Rattle.totals.specs.Total.{Most, sumIn, totals};
 pub const MOST: usize = 512;
 
 // A pair of a right: the lower of its two sides in each hour of the session.
-pub struct Pair {
+pub struct PairLower {
     pub lower: [u32; 5],
 }
 
@@ -23,7 +23,7 @@ fn plus(sum: u64, lower: u32) -> u64
 }
 
 // The five sums with one pair more.
-fn with_lower(sums: [u64; 5], pair: Pair) -> [u64; 5]
+fn with_lower(sums: [u64; 5], pair: PairLower) -> [u64; 5]
     requires { ⌜ Most (2 ^ 63) sums ⌝ }
     ensures { λ r. ⌜ (r ≡ five (sumIn sums pair)) × Most 4294967295 (pair .lower) ⌝ }
 {
@@ -38,7 +38,7 @@ fn with_lower(sums: [u64; 5], pair: Pair) -> [u64; 5]
 }
 
 // The sums of the lower sides over the pairs, proved by hand.
-pub fn total_lower(list: &[Pair]) -> [u64; 5]
+pub fn total_lower(list: &[PairLower]) -> [u64; 5]
     requires { ⌜ length (now list) ≤ pairLimit ⌝ }
     ensures { λ r. ⌜ r ≡ totals (now (list .entry)) ⌝ }
 {
@@ -52,7 +52,7 @@ pub fn total_lower(list: &[Pair]) -> [u64; 5]
 }
 
 // The sums over the first `count` pairs, proved by hand: its parameters are plain, so its callers need no walk.
-pub fn total_of(list: [Pair; MOST], count: usize) -> [u64; 5]
+pub fn total_of(list: [PairLower; MOST], count: usize) -> [u64; 5]
     requires { ⌜ count ≤ pairLimit ⌝ }
     ensures { λ r. ⌜ r ≡ totals (take count list) ⌝ }
 {

@@ -11,19 +11,19 @@ use Rattle.cells.specs.Search.{tryRow, firstRow}
 use Rattle.cells.specs.declared.Found.the-variants.{Nothing}
 use Rattle.rules.specs.Bids.{isRightOf}
 use Rattle.cells.specs.View.{rightAt}
-use Rattle.bids.specs.Work.{standingIn}
+use Rattle.bids.specs.Work.{standingRight}
 use Rattle.bids.proofs.standing.Statement.{statement}
 use Rattle.bids.proofs.standing.Tie as tie
 
 abbrev Inv-loop : tie.InvT-loop
 Inv-loop book holder direction session count i₀ i =
-    ((i ≤ count) × (count ≤ rightLimit)) × (standingIn book holder direction (session .0) ≡ each (tryRow (isRightOf holder direction (session .0)) (rightAt book)) (count - i) i Nothing)
+    ((i ≤ count) × (count ≤ rightLimit)) × (standingRight book holder direction (session .0) ≡ each (tryRow (isRightOf holder direction (session .0)) (rightAt book)) (count - i) i Nothing)
 
 abbrev μ-loop : tie.MeasureT-loop
 μ-loop book holder direction session count i₀ i = count - i
 
 loop-holds : tie.Need-loop-holds Inv-loop μ-loop
-unfolding standingIn firstRow
+unfolding standingRight firstRow
 loop-holds c = (omega (arith, c .count-in .ensures), rw (c .count-in .ensures) (each-start _ _ _))
 
 returns : tie.Need-returns Inv-loop μ-loop

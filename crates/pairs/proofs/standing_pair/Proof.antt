@@ -11,19 +11,19 @@ use Rattle.cells.specs.Search.{tryRow, firstRow}
 use Rattle.cells.specs.View.{pairAt}
 use Rattle.cells.specs.declared.Found.the-variants.{Nothing}
 use Rattle.rules.specs.Nominations.{isPairOf}
-use Rattle.pairs.specs.Search.{standingIn}
+use Rattle.pairs.specs.Search.{standingPair}
 use Rattle.pairs.proofs.standing_pair.Statement.{statement}
 use Rattle.pairs.proofs.standing_pair.Tie as tie
 
 abbrev Inv-loop : tie.InvT-loop
 Inv-loop book right out into count i₀ i =
-    ((i ≤ count) × (count ≤ pairLimit)) × (standingIn book right out into ≡ each (tryRow (isPairOf right out into) (pairAt book)) (count - i) i Nothing)
+    ((i ≤ count) × (count ≤ pairLimit)) × (standingPair book right out into ≡ each (tryRow (isPairOf right out into) (pairAt book)) (count - i) i Nothing)
 
 abbrev μ-loop : tie.MeasureT-loop
 μ-loop book right out into count i₀ i = count - i
 
 loop-holds : tie.Need-loop-holds Inv-loop μ-loop
-unfolding standingIn firstRow
+unfolding standingPair firstRow
 loop-holds c = (omega (arith, c .count-in .ensures), rw (c .count-in .ensures) (each-start _ _ _))
 
 returns : tie.Need-returns Inv-loop μ-loop

@@ -50,12 +50,12 @@ use denote.Triple.Walked.{says, needs, Stays, stay-dropped, walkOf, goes-dropped
 use denote.Exit.{yes}
 use Rattle.rules.specs.Basics.{five}
 use Rattle.rules.specs.Book.{pairLimit}
-use Rattle.totals.specs.declared.Pair.{Pair}
+use Rattle.totals.specs.declared.PairLower.{PairLower}
 use Rattle.totals.specs.Total.{Most, sumIn, totalLower, totals, sumOf}
 use Rattle.totals.proofs.Sums.{totals-next, most-next}
 use Rattle.totals.proofs.Rest.{tail}
-use Rattle.totals.proofs.Pair as T
-use Rattle.totals.proofs.Pair.Laws as T′
+use Rattle.totals.proofs.PairLower as T
+use Rattle.totals.proofs.PairLower.Laws as T′
 use Rattle.totals.proofs.with_lower as more-of
 use Rattle.totals.proofs.with_lower.Symbol as more-def
 use Rattle.totals.proofs.with_lower.Symbol.{name as #totals·with-lower}
@@ -67,7 +67,7 @@ use Rattle.totals.proofs.total_lower.Code as code
 use Rattle.totals.proofs.total_lower.Code.Mir as mir
 
 -- what stands for an element where there is none
-none : Pair
+none : PairLower
 none = record { lower = [] }
 
 abbrev stayed : Stays (total.ended .signature .params) (total.ended .kept)
@@ -81,7 +81,7 @@ size = 20
 abbrev onwards : Body
 onwards = tail (tail (tail mir.turn-1))
 
-abbrev vals : Pair → List Val
+abbrev vals : PairLower → List Val
 vals = LL.vals T.the-type T′.the-laws
 
 abbrev slice : Ty
@@ -115,7 +115,7 @@ lax : (m n : ℕ) (xs : List ℕ) → m ≤ n → Most m xs → Most n xs
 lax m n xs l h = record { first = omega (arith, h .first); second = omega (arith, h .second); third = omega (arith, h .third); fourth = omega (arith, h .fourth); fifth = omega (arith, h .fifth) }
 
 -- what `with_lower` says of its result r at the sums xs and the pair p
-abbrev Said : List ℕ → Pair → List ℕ → Type 0
+abbrev Said : List ℕ → PairLower → List ℕ → Type 0
 Said xs p r = (r ≡ five (sumIn xs p)) × Most 4294967295 (p .lower)
 
 module _ {M : Type 1} (𝓤 : URA M) (H : Heap 𝓤) (A : Atoms 𝓤) (mem : Memory → SProp 𝓤) (run : Routine → Fun 𝓤) where
@@ -123,14 +123,14 @@ module _ {M : Type 1} (𝓤 : URA M) (H : Heap 𝓤) (A : Atoms 𝓤) (mem : Mem
   abbrev More : Contract 𝓤
   More = tripleOf 𝓤 H A more-of.signature (more-of.spec 𝓤 H A mem run)
 
-  more-said : (xs : List ℕ) (p : Pair) (r : List ℕ) → ent 𝓤 (ensured 𝓤 H A more-of.ended (more-of.clauses 𝓤 H A mem run) tt (xs, (p, tt)) tt r) (fact 𝓤 (Said xs p r))
+  more-said : (xs : List ℕ) (p : PairLower) (r : List ℕ) → ent 𝓤 (ensured 𝓤 H A more-of.ended (more-of.clauses 𝓤 H A mem run) tt (xs, (p, tt)) tt r) (fact 𝓤 (Said xs p r))
   more-said xs p r = exE 𝓤 _ (λ ws. snd∗ 𝓤 (sem 𝓤 H A (lasts more-of.ended tt (xs, (p, tt)) ws)) (fact 𝓤 (Said xs p r)))
 
-module _ {M : Type 1} (𝓤 : URA M) (H : Heap 𝓤) (A : Atoms 𝓤) (W : Given 𝓤 H A) (mem : Memory → SProp 𝓤) (run : Routine → Fun 𝓤) (κ : Lft) (q : Share) (b o : ℕ) (γ : GName) (ys : List Pair) where
+module _ {M : Type 1} (𝓤 : URA M) (H : Heap 𝓤) (A : Atoms 𝓤) (W : Given 𝓤 H A) (mem : Memory → SProp 𝓤) (run : Routine → Fun 𝓤) (κ : Lft) (q : Share) (b o : ℕ) (γ : GName) (ys : List PairLower) where
   abbrev n : ℕ
   n = length ys
 
-  abbrev s : RefT (List Pair)
+  abbrev s : RefT (List PairLower)
   s = record { ptr = (b, o); name = γ; now = ys }
 
   -- the machine value that s has
@@ -144,7 +144,7 @@ module _ {M : Type 1} (𝓤 : URA M) (H : Heap 𝓤) (A : Atoms 𝓤) (W : Given
   Post = walkOf 𝓤 H A total.ended stayed (total.clauses 𝓤 H A mem run) .post (((κ, tt), (q, tt), tt, (s, tt), at), tt)
 
   -- nothing is kept of the parameters
-  exits : (xs : List Pair) → totals xs ≡ totals ys → Most (pairLimit * 4294967295) (totals xs) → ent 𝓤 (A .lft κ q) (Post (word (totals xs)))
+  exits : (xs : List PairLower) → totals xs ≡ totals ys → Most (pairLimit * 4294967295) (totals xs) → ent 𝓤 (A .lft κ q) (Post (word (totals xs)))
   exits xs e g =
       qed W (‵ (flft κ q) ∷ []) ∵
       suffices ! _ (ends-at 𝓤 H A total.ended stayed (total.clauses 𝓤 H A mem run) W (((κ, tt), (q, tt), tt, (s, tt), at), tt) (word (totals xs)) (totals xs) (tt, tt) (tt, tt)) $ says ! e $
@@ -152,10 +152,10 @@ module _ {M : Type 1} (𝓤 : URA M) (H : Heap 𝓤) (A : Atoms 𝓤) (W : Given
       owned ! Sums (Is Sums) (array-makes 𝓤 H A W u64 (uint-makes 𝓤 H A W w64) 5) (totals xs) _ (sums-are (λ k. totalLower k xs) g) $ done !
 
   -- the call of `with_lower` at the sums xs and the pair p
-  abbrev to : List ℕ → Pair → More 𝓤 H A mem run .Ghost
+  abbrev to : List ℕ → PairLower → More 𝓤 H A mem run .Ghost
   to xs p = ((tt, tt, tt, (xs, (p, tt)), (word xs ∷ [], (vals p, tt))), tt)
 
-  goes : (xs : List Pair) (p : Pair) → Most (pairLimit * 4294967295) (totals xs) → ent 𝓤 (sem 𝓤 H A (T.the-row .own p (vals p))) (More 𝓤 H A mem run .pre (to (totals xs) p))
+  goes : (xs : List PairLower) (p : PairLower) → Most (pairLimit * 4294967295) (totals xs) → ent 𝓤 (sem 𝓤 H A (T.the-row .own p (vals p))) (More 𝓤 H A mem run .pre (to (totals xs) p))
   goes xs p g = qed W (‵ (T.the-row .own p (vals p)) ∷ []) ∵ says ! (lax (pairLimit * 4294967295) (2 ^ 63) (totals xs) (omega arith) g) $ nothing ! $ move ! (1 ∷ 0 ∷ []) $ fjoin ! $
       owned ! Sums (Is Sums) (array-makes 𝓤 H A W u64 (uint-makes 𝓤 H A W w64) 5) (totals xs) _ (sums-are (λ k. totalLower k xs) g) $ fjoin ! $ nothing ! $ done !
 
@@ -191,7 +191,7 @@ module _ {M : Type 1} (𝓤 : URA M) (H : Heap 𝓤) (A : Atoms 𝓤) (W : Given
 
     -- the facts of a turn
     module _ (i : Upto) where
-      abbrev here : Pair
+      abbrev here : PairLower
       here = getD ys (i .0) none
 
       small : Most (pairLimit * 4294967295) (sum (i .0))

@@ -45,11 +45,11 @@ use denote.Triple.Table.{entered, cited}
 use denote.Triple.Walked.{says, needs, Stays, stay-dropped, walkOf, goes-dropped, Walks, ends-at, walked, walk-meets}
 use denote.Exit.{yes}
 use Rattle.rules.specs.Book.{pairLimit}
-use Rattle.totals.specs.declared.Pair.{Pair}
+use Rattle.totals.specs.declared.PairLower.{PairLower}
 use Rattle.totals.specs.Total.{totals}
 use Rattle.totals.proofs.Prefix.{Front, Others, lends-prefix, prefix-back}
-use Rattle.totals.proofs.Pair as T
-use Rattle.totals.proofs.Pair.Laws as T′
+use Rattle.totals.proofs.PairLower as T
+use Rattle.totals.proofs.PairLower.Laws as T′
 use Rattle.totals.proofs.total_lower as total
 use Rattle.totals.proofs.total_lower.Symbol as total-def
 use Rattle.totals.proofs.total_lower.Symbol.{name as #totals·total-lower}
@@ -70,7 +70,7 @@ Pairs = Array T.the-row most
 abbrev Sums : RattleType
 Sums = Array u64 5
 
-abbrev vals : Pair → List Val
+abbrev vals : PairLower → List Val
 vals = LL.vals T.the-type T′.the-laws
 
 abbrev stayed : Stays (total-of.ended .signature .params) (total-of.ended .kept)
@@ -85,8 +85,8 @@ module _ {M : Type 1} (𝓤 : URA M) (H : Heap 𝓤) (A : Atoms 𝓤) (mem : Mem
   abbrev Total : Contract 𝓤
   Total = tripleOf 𝓤 H A total.signature (total.spec 𝓤 H A mem run)
 
-module _ {M : Type 1} (𝓤 : URA M) (H : Heap 𝓤) (A : Atoms 𝓤) (W : Given 𝓤 H A) (mem : Memory → SProp 𝓤) (run : Routine → Fun 𝓤) (xs : List Pair) (k : ℕ) (long : length xs ≡ most) (few : k ≤ most) where
-  abbrev part : List Pair
+module _ {M : Type 1} (𝓤 : URA M) (H : Heap 𝓤) (A : Atoms 𝓤) (W : Given 𝓤 H A) (mem : Memory → SProp 𝓤) (run : Routine → Fun 𝓤) (xs : List PairLower) (k : ℕ) (long : length xs ≡ most) (few : k ≤ most) where
+  abbrev part : List PairLower
   part = take k xs
 
   abbrev mach : Val
@@ -111,7 +111,7 @@ module _ {M : Type 1} (𝓤 : URA M) (H : Heap 𝓤) (A : Atoms 𝓤) (W : Given
       nothing ! $ nothing ! $ fjoin ! $ nothing ! $ fjoin ! $ nothing ! $ done !
 
   -- the call of `total_lower`, at the slice at the address b, for the lifetime α, under the name γ
-  abbrev lent : ℕ → GName → RefT (List Pair)
+  abbrev lent : ℕ → GName → RefT (List PairLower)
   lent b γ = record { ptr = (b, 0); name = γ; now = part }
 
   abbrev v : ℕ → Val
