@@ -33,6 +33,7 @@ use Rattle.bids.specs.declared.BidVerdict.the-variants.{Clear, No}
 
 -- ---- the standing right
 
+-- the first right of a holder, direction and session
 unfoldable pub standingRight : List ℕ → ℕ → ℕ → ℕ → Found
 standingRight b h d s = firstRow (isRightOf h d s) (rightAt b) (counted b RIGHTS rightLimit)
 
@@ -42,6 +43,7 @@ rightFor b model h d s = cond (eqb model 1) Nothing (standingRight b h d s)
 
 -- ---- the entry of a bid
 
+-- in a full table: the right found, or no room
 abbrev pub entryOf : Found → Entry
 entryOf (At i) = Standing i
 entryOf Nothing = Full
@@ -67,6 +69,7 @@ pub record Cleared (b : List ℕ) (time p d s : ℕ) (mw : List ℕ) (e : Entry)
   pub clear : number (bookOf b) (Bid time p d s mw) ≡ 0
   pub enters : Enters b (directionAt b d .model) p d s e
 
+-- what the tests of a bid find is the number of the rules
 abbrev pub JudgedBid : List ℕ → ℕ → ℕ → ℕ → ℕ → List ℕ → BidVerdict → Type 0
 JudgedBid b time p d s mw (Clear e) = Cleared b time p d s mw e
 JudgedBid b time p d s mw (No a) = Judged (bookOf b) (Bid time p d s mw) (Refused a)
@@ -85,6 +88,7 @@ pub record Searched (b : List ℕ) (model d s : ℕ) (mw : List ℕ) (r : Search
 
 -- ---- the right of a granted bid
 
+-- a new right is the row after the last
 pub record NewRight (b : List ℕ) (h d s : ℕ) (mw : List ℕ) (n : ℕ) (b′ : List ℕ) : Type 0 where
   pub cells : Cells b
   pub mw-five : length mw ≡ 5
@@ -92,11 +96,13 @@ pub record NewRight (b : List ℕ) (h d s : ℕ) (mw : List ℕ) (n : ℕ) (b′
   pub number-is : n ≡ counted b RIGHTS rightLimit
   pub cells-are : b′ ≡ withRow RIGHTS n (h ∷ d ∷ s ∷ mw) b
 
+-- the standing right took the MW, or a new one did
 pub record Booked (b : List ℕ) (model h d s : ℕ) (mw : List ℕ) (n : ℕ) (b′ : List ℕ) : Type 0 where
   pub count : length b′ ≡ CELLS
   pub number-is : n ≡ rightNumber model h d s (bookOf b .rights)
   pub book-is : bookOf b′ ≡ withRights (bookOf b) (withRight model h d s mw (bookOf b .rights))
 
+-- the whole effect of the granted bid
 pub record Placed (b : List ℕ) (time p d s : ℕ) (mw : List ℕ) (n : ℕ) (b′ : List ℕ) : Type 0 where
   pub number-is : n ≡ detail (bookOf b) (Bid time p d s mw)
   pub book-is : bookOf b′ ≡ effect (bookOf b) (Bid time p d s mw)

@@ -23,10 +23,12 @@ pub record CallFits (c : CallRecord) : Type 0 where
 abbrev pub readSaid : RecordRead → RecordReply
 readSaid r = record { reply = said (r .answer); length = r .length; call = r .call }
 
+-- a reading is that of the rules
 pub record Reads (bytes : List ℕ) (r : RecordRead) : Type 0 where
   pub bytes-fit : (i : ℕ) → getD bytes i 0 < 256
   pub reply : readSaid r ≡ reading bytes
 
+-- a writing is that of the rules, reply and whole buffer
 pub record Writes (call : CallRecord) (before : List ℕ) (r : Answer) (after : List ℕ) : Type 0 where
   pub call-fits : CallFits call
   pub reply : said r ≡ writing call before .reply

@@ -16,7 +16,7 @@ use Rattle.rules.specs.Run.{applied}
 use Rattle.rules.specs.Opening.{openingRefuses, opening}
 use Rattle.rules.specs.Reads.{directionReadRefuses, readDirection, profileReadRefuses, readProfile, rightReadRefuses, readRight, confirmedReadRefuses, readConfirmed}
 use Rattle.rules.specs.Records.{writerRefuses, writing, readerRefuses, reading}
-use Rattle.rules.specs.Demand1.{None, upFrom, Lowest, granting, refusing, Demand1}
+use Rattle.rules.specs.Demand1.{highest, None, upFrom, Lowest, granting, refusing, Demand1}
 use Rattle.rules.specs.declared.CallRecord.{CallRecord}
 
 -- what is not 0 is a number whose condition holds
@@ -52,19 +52,19 @@ found-among f (suc n) k r e l = go (f k) refl (λ g. found-among f n (suc k) r g
     go true p rest = let g : k ≡ r = rw p at e in (omega arith, omega arith)
     go false p rest = let g = rest (rw p at e) in (omega arith, omega arith)
 
-in-order : order ≡ upFrom 1 15
+in-order : order ≡ upFrom 1 highest
 unfolding order
 in-order = refl
 
 pub lowest : (f : ℕ → Bool) → Lowest f (firstOf f order)
-lowest f = rw in-order (go (firstOf f (upFrom 1 15)) refl)
+lowest f = rw in-order (go (firstOf f (upFrom 1 highest)) refl)
   where
-    go : (r : ℕ) → firstOf f (upFrom 1 15) ≡ r → Lowest f r
-    go zero e = granting (λ m a u. lower-fail f 15 1 0 m (omega arith) e a (omega arith) (λ l. absurd (omega arith)))
+    go : (r : ℕ) → firstOf f (upFrom 1 highest) ≡ r → Lowest f r
+    go zero e = granting (λ m a u. lower-fail f highest 1 0 m (omega arith) e a (omega arith) (λ l. absurd (omega arith)))
     go (suc r) e =
-        let g = found-among f 15 1 (suc r) e (omega arith) in
-        refusing (suc r) (omega arith) (omega arith) (refused-so f (upFrom 1 15) (suc r) e (λ z. omega arith))
-        (λ m a l. lower-fail f 15 1 (suc r) m (omega arith) e a (omega arith) (λ s. l))
+        let g = found-among f highest 1 (suc r) e (omega arith) in
+        refusing (suc r) (omega arith) (omega arith) (refused-so f (upFrom 1 highest) (suc r) e (λ z. omega arith))
+        (λ m a l. lower-fail f highest 1 (suc r) m (omega arith) e a (omega arith) (λ s. l))
 
 -- and those before it don't
 pub passed : (f : ℕ → Bool) (ns : List ℕ) (n : ℕ) → firstOf f ns ≡ n → None f (before n ns)

@@ -18,6 +18,7 @@ pub record Party : Type 0 where
   pub code : List ℕ
   pub access : ℕ
 
+-- holder, direction, session, and the MW of its five hours
 pub record Right : Type 0 where
   pub holder : ℕ
   pub direction : ℕ
@@ -65,6 +66,7 @@ rightLimit = 512
 abbrev pub pairLimit : ℕ
 pairLimit = 512
 
+-- where the MW of a row in an hour stand, and the flag of a direction's session
 abbrev pub place : ℕ → ℕ → ℕ
 place row hour = row * 25 + (hour - 1)
 

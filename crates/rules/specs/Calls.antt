@@ -5,6 +5,7 @@ use mathlib.Core.Bool.{Bool}
 use mathlib.Core.List.{List}
 use lib.Dec.{eqb}
 
+-- set-up, offers, bids, nominations and matchings, with any numbers and bytes
 pub data Call : Type 0 where
   -- out operator, in operator, model
   AddDirection : ℕ → ℕ → ℕ → Call

@@ -19,6 +19,10 @@ abbrev pub None : (ℕ → Bool) → List ℕ → Type 0
 None f [] = Unit {0}
 None f (n ∷ ns) = (f n ≡ false) × None f ns
 
+-- the highest number of the table
+abbrev pub highest : ℕ
+highest = 15
+
 -- k, k + 1, .., n numbers in all
 abbrev pub upFrom : ℕ → ℕ → List ℕ
 upFrom k zero = []
@@ -26,12 +30,12 @@ upFrom k (suc n) = k ∷ upFrom (suc k) n
 
 -- the reply's number, by the conditions f: 0 and no condition holds, or condition n holds and no lower number's does
 pub data Lowest (f : ℕ → Bool) : ℕ → Type 0 where
-  granting : ((m : ℕ) → 1 ≤ m → m ≤ 15 → f m ≡ false) → Lowest f 0
-  refusing : (n : ℕ) → 1 ≤ n → n ≤ 15 → f n ≡ true → ((m : ℕ) → 1 ≤ m → m < n → f m ≡ false) → Lowest f n
+  granting : ((m : ℕ) → 1 ≤ m → m ≤ highest → f m ≡ false) → Lowest f 0
+  refusing : (n : ℕ) → 1 ≤ n → n ≤ highest → f n ≡ true → ((m : ℕ) → 1 ≤ m → m < n → f m ≡ false) → Lowest f n
 
 pub record Demand1 : Type 0 where
   -- the order in which the conditions are asked is 01's: 1 to 15
-  pub in-order : order ≡ upFrom 1 15
+  pub in-order : order ≡ upFrom 1 highest
   -- the calls of the list of demand 3
   pub calls : (b : Book) (c : Call) → Lowest (refuses b c) (applied b c .reply .number)
   pub calls-kept : (b : Book) (c : Call) → isGrant (applied b c .reply) ≡ false → applied b c .book ≡ b

@@ -112,6 +112,7 @@ matchedAfter flags (Bid time p d session mw) = flags
 matchedAfter flags (Nominate time sender other r side mw) = flags
 matchedAfter flags (Match time d session) = set flags (flag d session) 1
 
+-- the book after a granted call, part by part
 unfoldable pub effect : Book → Call → Book
 effect b c =
     record {

@@ -19,6 +19,7 @@ use Rattle.rules.specs.Nominations.{outOf, intoOf, pairTaken}
 
 -- ---- the order
 
+-- the order in which the conditions are asked: 1 to 15
 unfoldable pub order : List ℕ
 order = 1 ∷ 2 ∷ 3 ∷ 4 ∷ 5 ∷ 6 ∷ 7 ∷ 8 ∷ 9 ∷ 10 ∷ 11 ∷ 12 ∷ 13 ∷ 14 ∷ 15 ∷ []
 

@@ -9,6 +9,7 @@ use Rattle.rules.specs.Refusals.{number}
 use Rattle.rules.specs.Effects.{effect}
 use Rattle.rules.specs.Details.{detail, refusal}
 
+-- the reply to a call, and the book after it
 pub record Step : Type 0 where
   pub reply : Reply
   pub book : Book
@@ -19,6 +20,7 @@ applied b c =
     cond (eqb (number b c) 0) (record { reply = record { number = 0; first = detail b c; second = 0 }; book = effect b c })
     (record { reply = refusal b c (number b c); book = b })
 
+-- the replies to a list of calls, and the book after it
 pub record Run : Type 0 where
   pub replies : List Reply
   pub book : Book

@@ -13,6 +13,7 @@ abbrev pub capacityNumber : CapacityOf → ℕ
 capacityNumber Direction = 0
 capacityNumber (Profile p) = 1 + p
 
+-- the reply that an answer stands for
 abbrev pub said : Answer → Reply
 said (Granted n) = record { number = 0; first = n; second = 0 }
 said Record = noDetails 1
