@@ -1,7 +1,4 @@
 // A line is answered by its numbers and in words; the text stands in a lent buffer.
-mod calls;
-mod words;
-
 use answers::ConfirmedRead;
 use answers::LeftRead;
 use answers::RightRead;
@@ -85,10 +82,10 @@ fn code_at(line: &[u8], from: usize) -> [u8; 16] {
 fn call(book: &mut Book, line: &[u8], found: Found) -> Answer {
     let given = found.given.values;
     if found.kind == rehearse_lines::OPEN {
-        return calls::open(book, given);
+        return rehearse_calls::open(book, given);
     }
     let code = code_at(line, found.code);
-    calls::call(
+    rehearse_calls::call(
         book,
         found.kind,
         found.is_profile,
@@ -101,9 +98,9 @@ fn call(book: &mut Book, line: &[u8], found: Found) -> Answer {
 fn left(book: &Book, found: Found) -> LeftRead {
     let given = found.given.values;
     if found.is_profile {
-        return calls::left_of_profile(book, given);
+        return rehearse_calls::left_of_profile(book, given);
     }
-    calls::left_of_direction(book, given)
+    rehearse_calls::left_of_direction(book, given)
 }
 
 fn numbers(book: &mut Book, line: &[u8], found: Found) -> Numbers {
@@ -111,8 +108,8 @@ fn numbers(book: &mut Book, line: &[u8], found: Found) -> Numbers {
     let kind = found.kind;
     match kind {
         rehearse_lines::LEFT => of_left(left(book, found)),
-        rehearse_lines::RIGHT => of_right(calls::right(book, given)),
-        rehearse_lines::CONFIRMED => of_confirmed(calls::confirmed(book, given)),
+        rehearse_lines::RIGHT => of_right(rehearse_calls::right(book, given)),
+        rehearse_lines::CONFIRMED => of_confirmed(rehearse_calls::confirmed(book, given)),
         _ => of_answer(call(book, line, found)),
     }
 }
@@ -144,7 +141,7 @@ fn answered(book: &mut Book, line: &[u8], found: Found, text: &mut [u8], at: usi
     let arrow = put(text, at, b" ->");
     let past = put_numbers(text, arrow, numbers);
     let said = put(text, past, b"  ");
-    let end = words::put_words(text, said, found.kind, numbers);
+    let end = rehearse_words::put_words(text, said, found.kind, numbers);
     if differs(found, numbers) {
         return Turn {
             end: put(text, end, b"  <== differs"),

@@ -1,11 +1,11 @@
--- `rehearse_answers::words::put_hours` is safe and ends.
+-- `rehearse_words::put_hours` is safe and ends.
 -- Assumes nothing.
 use borrow.Author.Needs.{needs}
 use Prim.Native.Nat.{_≤_, _-_}
 use mathlib.Core.Path.{_≡_}
 use lib.ListN.{length}
-use Rattle.rehearse_answers.proofs.words.put_hours.Statement.{statement}
-use Rattle.rehearse_answers.proofs.words.put_hours.Tie as tie
+use Rattle.rehearse_words.proofs.put_hours.Statement.{statement}
+use Rattle.rehearse_words.proofs.put_hours.Tie as tie
 
 abbrev Inv-loop : tie.InvT-loop
 Inv-loop text₀ at marks end₀ hour₀ text end hour = (hour ≤ 5) × (length text ≡ length text₀)

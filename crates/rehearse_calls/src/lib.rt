@@ -2,7 +2,7 @@
 ghost use mathlib.Core.Path.{_≡_};
 ghost use Prim.Native.Nat.{_≤_};
 ghost use Rattle.answers.specs.Promises.{Opens, Answers, ReadsDirection, ReadsProfile, ReadsRight, ReadsConfirmed};
-ghost use Rattle.rehearse_answers.specs.Made.{byteAt, twoAt, fiveFrom, offerOf, bidOf, nominateOf, matchOf, directionOf, callOf};
+ghost use Rattle.rehearse_calls.specs.Made.{byteAt, twoAt, fiveFrom, offerOf, bidOf, nominateOf, matchOf, directionOf, callOf};
 use answers::ConfirmedRead;
 use answers::LeftRead;
 use answers::RightRead;

@@ -1,10 +1,10 @@
--- `rehearse_answers::calls::call` meets its contract: the kinds are told one after the other.
+-- `rehearse_calls::call` meets its contract: the kinds are told one after the other.
 -- Assumes nothing.
 use borrow.Author.Tests.{eq-eqb, ne-eqb}
-use Rattle.rehearse_answers.specs.Made.{callOf}
+use Rattle.rehearse_calls.specs.Made.{callOf}
 use borrow.Author.Needs.{needs}
-use Rattle.rehearse_answers.proofs.calls.call.Statement.{statement}
-use Rattle.rehearse_answers.proofs.calls.call.Tie as tie
+use Rattle.rehearse_calls.proofs.call.Statement.{statement}
+use Rattle.rehearse_calls.proofs.call.Tie as tie
 
 returns : tie.Need-returns
 unfolding callOf
