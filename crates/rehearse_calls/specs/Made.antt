@@ -48,8 +48,8 @@ abbrev pub directionOf : List ℕ → Call
 directionOf given = AddDirection (byteAt given 0) (byteAt given 1) (byteAt given 2)
 
 -- by the kind of the line, 1 to 7
-unfoldable pub callOf : ℕ → Bool → List ℕ → ℕ → List ℕ → Call
-callOf kind isProfile given map code =
+unfoldable pub lineCall : ℕ → Bool → List ℕ → ℕ → List ℕ → Call
+lineCall kind isProfile given map code =
     cond
     (eqb kind 1)
     (directionOf given)

@@ -2,7 +2,7 @@
 ghost use mathlib.Core.Path.{_≡_};
 ghost use Prim.Native.Nat.{_≤_};
 ghost use Rattle.answers.specs.Promises.{Opens, Answers, ReadsDirection, ReadsProfile, ReadsRight, ReadsConfirmed};
-ghost use Rattle.rehearse_calls.specs.Made.{byteAt, twoAt, fiveFrom, offerOf, bidOf, nominateOf, matchOf, directionOf, callOf};
+ghost use Rattle.rehearse_calls.specs.Made.{byteAt, twoAt, fiveFrom, offerOf, bidOf, nominateOf, matchOf, directionOf, lineCall};
 use answers::ConfirmedRead;
 use answers::LeftRead;
 use answers::RightRead;
@@ -98,7 +98,7 @@ pub fn call(
     directions: u32,
     code: [u8; 16],
 ) -> Answer
-    ensures { λ r. ⌜ Answers (now (book .entry)) (callOf kind profile given directions code) r (now (book .exit)) ⌝ }
+    ensures { λ r. ⌜ Answers (now (book .entry)) (lineCall kind profile given directions code) r (now (book .exit)) ⌝ }
 {
     if kind == rehearse_lines::DIRECTION {
         return add_direction(book, given);

@@ -1,37 +1,37 @@
 -- `rehearse_calls::call` meets its contract: the kinds are told one after the other.
 -- Assumes nothing.
 use borrow.Author.Tests.{eq-eqb, ne-eqb}
-use Rattle.rehearse_calls.specs.Made.{callOf}
+use Rattle.rehearse_calls.specs.Made.{lineCall}
 use borrow.Author.Needs.{needs}
 use Rattle.rehearse_calls.proofs.call.Statement.{statement}
 use Rattle.rehearse_calls.proofs.call.Tie as tie
 
 returns : tie.Need-returns
-unfolding callOf
+unfolding lineCall
 returns c = simp (eq-eqb _ _ (c .before .before .if1 .taken)) (c .add-direction .ensures)
 
 returns-2 : tie.Need-returns-2
-unfolding callOf
+unfolding lineCall
 returns-2 c = simp (ne-eqb _ _ (c .before .before .before .if1 .left), eq-eqb _ _ (c .before .before .if2 .taken)) (c .add-profile .ensures)
 
 returns-3 : tie.Need-returns-3
-unfolding callOf
+unfolding lineCall
 returns-3 c = simp (ne-eqb _ _ (c .before .before .before .before .if1 .left), ne-eqb _ _ (c .before .before .before .if2 .left), eq-eqb _ _ (c .before .before .if3 .taken)) (c .add-party .ensures)
 
 returns-4 : tie.Need-returns-4
-unfolding callOf
+unfolding lineCall
 returns-4 c = simp (ne-eqb _ _ (c .before .before .before .before .before .if1 .left), ne-eqb _ _ (c .before .before .before .before .if2 .left), ne-eqb _ _ (c .before .before .before .if3 .left), eq-eqb _ _ (c .before .before .if4 .taken)) (c .offer .ensures)
 
 returns-5 : tie.Need-returns-5
-unfolding callOf
+unfolding lineCall
 returns-5 c = simp (ne-eqb _ _ (c .before .before .before .before .before .before .if1 .left), ne-eqb _ _ (c .before .before .before .before .before .if2 .left), ne-eqb _ _ (c .before .before .before .before .if3 .left), ne-eqb _ _ (c .before .before .before .if4 .left), eq-eqb _ _ (c .before .before .if5 .taken)) (c .bid .ensures)
 
 returns-6 : tie.Need-returns-6
-unfolding callOf
+unfolding lineCall
 returns-6 c = simp (ne-eqb _ _ (c .before .before .before .before .before .before .before .if1 .left), ne-eqb _ _ (c .before .before .before .before .before .before .if2 .left), ne-eqb _ _ (c .before .before .before .before .before .if3 .left), ne-eqb _ _ (c .before .before .before .before .if4 .left), ne-eqb _ _ (c .before .before .before .if5 .left), eq-eqb _ _ (c .before .before .if6 .taken)) (c .nominate .ensures)
 
 returns-7 : tie.Need-returns-7
-unfolding callOf
+unfolding lineCall
 returns-7 c = simp (ne-eqb _ _ (c .before .before .before .before .before .before .before .if1 .left), ne-eqb _ _ (c .before .before .before .before .before .before .if2 .left), ne-eqb _ _ (c .before .before .before .before .before .if3 .left), ne-eqb _ _ (c .before .before .before .before .if4 .left), ne-eqb _ _ (c .before .before .before .if5 .left), ne-eqb _ _ (c .before .before .if6 .left)) (c .match-session .ensures)
 
 pub call-spec : {M : Type 1} → statement M
