@@ -1,6 +1,4 @@
-// Opens a day book, reads call records from standard input to its end, and prints a line for each.
+// Opens a day book, reads call records from standard input, and prints a line for each, up to a 1 or the end of the input.
 fn main() {
-    let mut book = [0u32; cells::CELLS];
-    stream::open_book(&mut book);
-    dayrun_loop::answer_all(&mut book);
+    dayrun_loop::answer_input();
 }

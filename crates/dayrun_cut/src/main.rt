@@ -1,6 +1,4 @@
-// The program `dayrun` on an input that ends inside a record: the record is refused with 1, and is the last.
+// The program `dayrun` on an input longer than its buffer that ends inside a record: the record is refused with 1.
 fn main() {
-    let mut book = [0u32; cells::CELLS];
-    stream::open_book(&mut book);
-    dayrun_loop::answer_all(&mut book);
+    dayrun_loop::answer_input();
 }

@@ -1,44 +1,83 @@
--- Each turn of the loop is a step of a run, as `stream` describes it.
+-- Each turn of the loop is the step that comes next, as `stream` describes it.
 -- Assumes nothing.
-use Prim.Native.Nat.{ℕ, _+_, _≤_}
+use Prim.Native.Nat.{ℕ, zero, suc, _+_, _-_, _^_, _≤_, _<_}
 use mathlib.Core.Path.{_≡_}
-use mathlib.Core.Bool.{Bool, true}
+use mathlib.Core.Bool.{Bool, true, false}
 use mathlib.Core.List.{List, _++_}
 use lib.ListN.{length, take}
+use Rattle.cells.specs.View.{bookOf}
+use Rattle.dayrun_settled.specs.Settled.{longest}
 use Rattle.stream.specs.declared.Run.{Run}
-use Rattle.stream.specs.declared.Next.the-variants.{End}
-use Rattle.stream.specs.Running.{textSize, unread, Fits, nextOf, wroteRun, Fronted, receivedRun, State, Reaches}
+use Rattle.stream.specs.declared.Next.{Next}
+use Rattle.stream.specs.declared.Next.the-variants.{Answer, Write, Read, End}
+use Rattle.stream.specs.Records.{startBook}
+use Rattle.stream.specs.Running.{textSize, Fits, startRun, AnswersNext, wroteRun, Fronted, receivedRun, State, nextIn, Reaches}
+
+-- ---- one step
 
 -- the collected lines were written, or not all of them could be
 pub record Wrote (run r : Run) : Type 0 where
   pub written : Bool
   pub after : r ≡ wroteRun run written
 
--- the unread bytes went to the front of the buffer, and a read put more behind them
+-- the unread bytes went to the front of the buffer, where there was room behind them, and a read put more there
 pub record ReadsMore (before : List ℕ) (run r : Run) (after : List ℕ) : Type 0 where
   pub moved : Run
   pub front : List ℕ
   pub more : List ℕ
   pub fronted : Fronted before run moved front
+  pub room : moved .to < length front
   pub behind : take (moved .to + length more) after ≡ take (moved .to) front ++ more
   pub received : r ≡ receivedRun moved (length more)
   pub fits : Fits after r
+  pub size : length after ≡ length before
 
--- the state is one that steps lead to, or a write failed and the program is done
+abbrev pub stateOf : List ℕ → List ℕ → List ℕ → Run → State
+stateOf cells buffer text run = record { cells = cells; buffer = buffer; text = text; run = run }
+
+-- from a state by a step to the next state, each with the promise of the step's function
+pub data Steps : State → Next → State → Type 0 where
+  taking : (st : State) (r : Run) (text after : List ℕ) → AnswersNext (st .cells) (st .buffer) (st .run) (st .text) r text after → length text ≡ length (st .text)
+      → Steps st Answer (record { cells = after; buffer = st .buffer; text = text; run = r })
+  writing : (st : State) (r : Run) → Wrote (st .run) r → Steps st Write (record { cells = st .cells; buffer = st .buffer; text = st .text; run = r })
+  reading : (st : State) (r : Run) (buffer : List ℕ) → ReadsMore (st .buffer) (st .run) r buffer
+      → Steps st Read (record { cells = st .cells; buffer = buffer; text = st .text; run = r })
+  ending : (st : State) → Steps st End st
+
+-- ---- the steps from the start on
+
+-- so many steps lead to the state, each the one that comes next
+pub data Turns : ℕ → State → Type 0 where
+  none : (cells buffer text : List ℕ) → bookOf cells ≡ startBook → Turns 0 (record { cells = cells; buffer = buffer; text = text; run = startRun })
+  more : (n : ℕ) (st : State) (next : Next) (after : State) → Turns n st → nextIn st ≡ next → Steps st next after → Turns (suc n) after
+
+-- the state is one that the steps of a run lead to, or the write that came next in such a state failed
 pub data Runs : State → Type 0 where
   reached : (input written : List ℕ) (st : State) → Reaches input written st → Runs st
-  failed : (st : State) → st .run .done ≡ true → st .run .filled ≡ 0 → Runs st
+  failed : (input written : List ℕ) (st : State) → Reaches input written st → nextIn st ≡ Write
+      → Runs (record { cells = st .cells; buffer = st .buffer; text = st .text; run = wroteRun (st .run) false })
 
--- and its positions lie in the buffer and in the text
-pub record Goes (cells buffer text : List ℕ) (run : Run) : Type 0 where
-  pub fits : Fits buffer run
-  pub size : textSize ≤ length text
-  pub runs : Runs (record { cells = cells; buffer = buffer; text = text; run = run })
+-- and its positions lie in the buffer, which has room for any record, and in the text
+pub record Goes (st : State) : Type 0 where
+  pub fits : Fits (st .buffer) (st .run)
+  pub room : longest ≤ length (st .buffer)
+  pub size : textSize ≤ length (st .text)
+  pub runs : Runs st
 
--- it comes to its end with this book
-pub record Ended (cells : List ℕ) : Type 0 where
+-- ---- the whole loop
+
+-- with this book, so many turns were taken; where the loop came to its end, the end is what comes next, and else no turn is left
+pub record Loops (ended : Bool) (cells : List ℕ) : Type 0 where
   pub buffer : List ℕ
   pub text : List ℕ
   pub run : Run
-  pub goes : Goes cells buffer text run
-  pub ends : nextOf (unread buffer run) run ≡ End
+  pub turns : ℕ
+  pub taken : Turns turns (stateOf cells buffer text run)
+  pub goes : Goes (stateOf cells buffer text run)
+  pub ends : ended ≡ true → nextIn (stateOf cells buffer text run) ≡ End
+  pub all : ended ≡ false → turns ≡ 2 ^ 64 - 1
+
+-- some book is the one that it leaves
+pub record Answered (ended : Bool) : Type 0 where
+  pub cells : List ℕ
+  pub loops : Loops ended cells

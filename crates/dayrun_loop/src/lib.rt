@@ -1,16 +1,18 @@
 // The loop of the program `dayrun`: it reads standard input and writes standard output as `stream` says.
 ghost use mathlib.Core.Path.{_≡_};
-ghost use mathlib.Core.Bool.{true};
 ghost use Prim.Native.Nat.{_-_, _<_, _≤_};
 ghost use lib.ListN.{length};
 ghost use Rattle.cells.specs.View.{bookOf};
 ghost use Rattle.stream.specs.Records.{startBook};
 ghost use Rattle.dayrun_settled.specs.Settled.{longest};
-ghost use Rattle.stream.specs.Running.{textSize, unread, Fits, nextOf};
-ghost use Rattle.dayrun_loop.specs.Steps.{Wrote, ReadsMore, Goes, Ended};
+ghost use Rattle.stream.specs.Running.{textSize, Fits, nextIn};
+ghost use Rattle.dayrun_loop.specs.Steps.{Wrote, ReadsMore, stateOf, Steps, Goes, Loops, Answered};
 use cells::Book;
 use stream::Next;
 use stream::Run;
+
+// The bytes of the buffer for the input.
+const INPUT: usize = 65536;
 
 // Writes the collected lines.
 fn write_lines(run: Run, text: &[u8]) -> Run
@@ -23,7 +25,7 @@ fn write_lines(run: Run, text: &[u8]) -> Run
 
 // Moves what is unread to the front of the buffer, and reads once behind it. A read that fails ends the input.
 fn read_more(buffer: &mut [u8], run: Run) -> Run
-    requires { ⌜ Fits (now buffer) run × (run .to - run .from < longest) ⌝ }
+    requires { ⌜ Fits (now buffer) run × ((run .to - run .from < longest) × (longest ≤ length (now buffer))) ⌝ }
     ensures { λ r. ⌜ ReadsMore (now (buffer .entry)) run r (now (buffer .exit)) ⌝ }
 {
     let moved = stream::to_front(buffer, run);
@@ -34,8 +36,8 @@ fn read_more(buffer: &mut [u8], run: Run) -> Run
 
 // Takes the step that comes next.
 fn go_on(book: &mut Book, buffer: &mut [u8], run: Run, text: &mut [u8], next: Next) -> Run
-    requires { ⌜ Goes (now book) (now buffer) (now text) run × (next ≡ nextOf (unread (now buffer) run) run) ⌝ }
-    ensures { λ r. ⌜ Goes (now (book .exit)) (now (buffer .exit)) (now (text .exit)) r ⌝ }
+    requires { ⌜ Goes (stateOf (now book) (now buffer) (now text) run) × (next ≡ nextIn (stateOf (now book) (now buffer) (now text) run)) ⌝ }
+    ensures { λ r. ⌜ Steps (stateOf (now (book .entry)) (now (buffer .entry)) (now (text .entry)) run) next (stateOf (now (book .exit)) (now (buffer .exit)) (now (text .exit)) r) ⌝ }
 {
     match next {
         Next::Answer => stream::answer_next(book, buffer, run, text),
@@ -45,14 +47,14 @@ fn go_on(book: &mut Book, buffer: &mut [u8], run: Run, text: &mut [u8], next: Ne
     }
 }
 
-// Whether the run came to its end. A proved loop has to end, and nothing says that the input does: it counts down from a number that no run uses up.
-pub fn answer_all(book: &mut Book) -> bool
+// Whether the loop came to its end. A proved loop has to end, and nothing says that the input does: it counts down from a number that no input uses up.
+fn answer_all(book: &mut Book) -> bool
     requires { ⌜ bookOf (now book) ≡ startBook ⌝ }
-    ensures { λ r. ⌜ (r ≡ true → Ended (now (book .exit))) ⌝ }
+    ensures { λ r. ⌜ Loops r (now (book .exit)) ⌝ }
 {
-    let mut input = io::large_buffer();
+    let mut input = [0u8; INPUT];
     let buffer: &mut [u8] = &mut input;
-    let mut lines = io::buffer();
+    let mut lines = [0u8; stream::TEXT];
     let text: &mut [u8] = &mut lines;
     let mut run = stream::start();
     let mut turns = u64::MAX;
@@ -65,4 +67,13 @@ pub fn answer_all(book: &mut Book) -> bool
         turns -= 1;
     }
     false
+}
+
+// The program: opens a book, and answers the records of standard input on it. Whether it came to its end.
+pub fn answer_input() -> bool
+    ensures { λ r. ⌜ Answered r ⌝ }
+{
+    let mut book = [0u32; cells::CELLS];
+    stream::open_book(&mut book);
+    answer_all(&mut book)
 }

@@ -8,7 +8,7 @@ use lib.Dec.{eqb}
 use lib.ListN.{length, getD, drop, replicate}
 use Rattle.rules.specs.Records.{mapFor, bytesOf, reading}
 
--- no record has more bytes
+-- the map and all fields that it has bits for: a bound that no record exceeds (a nomination of five hours, the longest, has 20 bytes)
 abbrev pub longest : ℕ
 longest = 24
 

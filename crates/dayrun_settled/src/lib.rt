@@ -5,6 +5,9 @@ ghost use Prim.Native.Nat.{_≤_};
 ghost use lib.ListN.{length, drop, replicate};
 ghost use Rattle.dayrun_settled.specs.Settled.{longest, isRead, canBeRead, settled};
 
+// The map and all fields that it has bits for: a bound that no record exceeds.
+pub const LONGEST: usize = 24;
+
 // The bytes begin with a record.
 fn is_read(bytes: &[u8]) -> bool
     ensures { λ r. ⌜ r ≡ isRead (now (bytes .entry)) ⌝ }
@@ -20,7 +23,7 @@ fn is_read_as(bytes: &[u8], kind: u8, low: u8, high: u8) -> bool
     requires { ⌜ length (now bytes) ≤ longest ⌝ }
     ensures { λ r. ⌜ r ≡ isRead (now (bytes .entry) ++ drop (length (now (bytes .entry))) (low ∷ high ∷ replicate 22 kind)) ⌝ }
 {
-    let mut completed = [kind; 24];
+    let mut completed = [kind; LONGEST];
     completed[0] = low;
     completed[1] = high;
     bytes::copy(bytes, &mut completed);
@@ -51,7 +54,7 @@ fn can_be_read(bytes: &[u8]) -> bool
 pub fn is_settled(bytes: &[u8]) -> bool
     ensures { λ r. ⌜ r ≡ settled (now (bytes .entry)) ⌝ }
 {
-    if bytes.len() >= 24 {
+    if bytes.len() >= LONGEST {
         return true;
     }
     if is_read(bytes) {

@@ -8,6 +8,9 @@ ghost use Rattle.rules.specs.Said.{saidNumbers};
 ghost use Rattle.lines.specs.Text.{decimal, lineOf, Put};
 use rules::ReplyNumbers;
 
+// No line has more bytes: four numbers of at most twenty digits, each with a byte after it.
+pub const LINE: usize = 84;
+
 // Bytes from a position on.
 fn put(line: &mut [u8], at: usize, text: &[u8])
     requires { ⌜ at + length (now text) ≤ length (now line) ⌝ }
@@ -29,7 +32,7 @@ fn put_number(line: &mut [u8], at: usize, number: u64, ending: u8) -> usize
     at + count + 1
 }
 
-// A line from a position on: the position past it. Four numbers of at most twenty digits, each with a byte after it.
+// A line from a position on: the position past it.
 pub fn write_line(text: &mut [u8], at: usize, position: u64, reply: ReplyNumbers) -> usize
     requires { ⌜ at + 84 ≤ length (now text) ⌝ }
     ensures { λ r. ⌜ Put 84 (now (text .entry)) at (lineOf position (saidNumbers reply)) r (now (text .exit)) ⌝ }

@@ -13,6 +13,9 @@ use cells::Book;
 use rules::Answer;
 use rules::CallRecord;
 
+// How many bytes of lines are collected at most.
+pub const TEXT: usize = 4096;
+
 // The answer to the record at the front of bytes, and the record's length; 0 where it can't be read.
 struct Taken {
     answer: Answer,
@@ -119,7 +122,7 @@ fn has_room(run: Run) -> bool
     if run.done {
         return false;
     }
-    run.filled + 84 <= 4096
+    run.filled + lines::LINE <= TEXT
 }
 
 // The next record is answered now.
@@ -197,7 +200,7 @@ pub fn to_front(buffer: &mut [u8], run: Run) -> Run
 {
     let from = run.from;
     let to = run.to;
-    let mut rest = [0u8; 24];
+    let mut rest = [0u8; dayrun_settled::LONGEST];
     let count = bytes::copy(&buffer[from..to], &mut rest);
     Run {
         from: 0,

@@ -1,43 +1,74 @@
--- `dayrun_loop::answer_all` meets its contract: each turn is a step of a run, and the measure is the number of turns that are left.
+-- `dayrun_loop::answer_all` meets its contract: each turn is the step that comes next, and the measure is the number of turns that are left.
 -- Assumes nothing.
-use mathlib.Core.Path.{sym, _∙_}
-use mathlib.Core.Bool.{false≢true}
+use Prim.Native.Nat.{suc, _-_, _^_, _<_}
+use mathlib.Core.Path.{_≡_, sym, _∙_}
+use mathlib.Core.Bool.{true≢false, false≢true}
 use native.Mathlib.Omega.{arith}
 use borrow.Author.Needs.{needs}
-use Rattle.dayrun_loop.specs.Steps.{Goes}
-use Rattle.dayrun_loop.proofs.Steps.{goes-first}
+use Rattle.dayrun_loop.specs.Steps.{stateOf, Turns, more, Goes}
+use Rattle.dayrun_loop.proofs.Steps.{goes-first, turns-first, goes-on}
 use Rattle.dayrun_loop.proofs.answer_all.Statement.{statement}
 use Rattle.dayrun_loop.proofs.answer_all.Tie as tie
 
 abbrev Inv-loop : tie.InvT-loop
-Inv-loop book₀ buffer₀ text₀ run₀ turns₀ book buffer text run turns = Goes book buffer text run
+Inv-loop book₀ buffer₀ text₀ run₀ turns₀ book buffer text run turns = Goes (stateOf book buffer text run) × ((turns < 2 ^ 64) × Turns (2 ^ 64 - 1 - turns) (stateOf book buffer text run))
 
 abbrev μ-loop : tie.MeasureT-loop
 μ-loop book₀ buffer₀ text₀ run₀ turns₀ book buffer text run turns = turns
 
 loop-holds : tie.Need-loop-holds Inv-loop μ-loop
-loop-holds c = goes-first _ _ _ _ (c .before .before .before .before .before .pre) (c .start .ensures) (omega arith)
+loop-holds c =
+    let b = c .before .before .before .pre in
+    (goes-first _ _ _ _ b (c .start .ensures) (omega arith) (omega arith), (omega arith, turns-first _ _ _ _ b (c .start .ensures)))
 
 what-next-requires : tie.Need-what-next-requires Inv-loop μ-loop
-what-next-requires c κs = c .before .before .loop .inv .fits
+what-next-requires c κs = c .before .before .loop .inv .0 .fits
 
 returns : tie.Need-returns Inv-loop μ-loop
 returns c =
     let e = c .before .before in
     let n = e .before .before in
     let l = n .before .before .before in
-    λ t. record { buffer = _; text = _; run = _; goes = l .loop .inv; ends = sym (n .what-next .ensures) ∙ e .enum-told .given .1 }
+    record {
+      buffer = _;
+      text = _;
+      run = _;
+      turns = _;
+      taken = l .loop .inv .1 .1;
+      goes = l .loop .inv .0;
+      ends = λ t. sym (n .what-next .ensures) ∙ e .enum-told .given .1;
+      all = λ f. absurd (true≢false f);
+    }
 
 go-on-requires : tie.Need-go-on-requires Inv-loop μ-loop
 go-on-requires c κs =
     let n = c .before .before .before .before in
-    (n .before .before .before .loop .inv, n .what-next .ensures)
+    (n .before .before .before .loop .inv .0, n .what-next .ensures)
 
 loop-again : tie.Need-loop-again Inv-loop μ-loop
-loop-again c = c .before .before .before .before .go-on .ensures
+loop-again c =
+    let g = c .before .before .before .before in
+    let n = g .before .before .before .before .before in
+    let l = n .before .before .before .loop in
+    let most = l .inv .1 .0 in
+    let same : suc (2 ^ 64 - 1 - l .turns) ≡ 2 ^ 64 - 1 - (l .turns - 1) = omega arith in (
+      goes-on _ _ _ (l .inv .0) (sym (n .what-next .ensures)) (g .go-on .ensures),
+      (omega arith, rw (← same) (more _ _ _ _ (l .inv .1 .1) (sym (n .what-next .ensures)) (g .go-on .ensures))),
+    )
 
 returns-2 : tie.Need-returns-2 Inv-loop μ-loop
-returns-2 c = λ e. absurd (false≢true e)
+returns-2 c =
+    let l = c .before .before .before in
+    record {
+      buffer = _;
+      text = _;
+      run = _;
+      turns = _;
+      taken = l .loop .inv .1 .1;
+      goes = l .loop .inv .0;
+      ends = λ t. absurd (false≢true t);
+      all = λ f. omega arith;
+    }
 
 pub answer-all-spec : {M : Type 1} → statement M
 answer-all-spec =
@@ -45,9 +76,7 @@ answer-all-spec =
     (tie.spec
     Inv-loop
     μ-loop
-    (λ c κs. search needs)
     (λ c. search needs)
-    (λ c κs. search needs)
     (λ c. search needs)
     (λ c κs. search needs)
     loop-holds
