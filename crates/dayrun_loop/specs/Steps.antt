@@ -7,62 +7,62 @@ use mathlib.Core.List.{List, _++_}
 use lib.ListN.{length, take}
 use Rattle.cells.specs.View.{bookOf}
 use Rattle.dayrun_settled.specs.Settled.{longest}
-use Rattle.stream.specs.declared.Run.{Run}
+use Rattle.stream.specs.declared.Progress.{Progress}
 use Rattle.stream.specs.declared.Next.{Next}
-use Rattle.stream.specs.declared.Next.the-variants.{Answer, Write, Read, End}
+use Rattle.stream.specs.declared.Next.the-variants.{Take, Write, Read, End}
 use Rattle.stream.specs.Records.{startBook}
-use Rattle.stream.specs.Running.{textSize, Fits, startRun, AnswersNext, wroteRun, Fronted, receivedRun, State, nextIn, Reaches}
+use Rattle.stream.specs.Running.{textSize, Fits, startProgress, AnswersNext, wroteProgress, Fronted, receivedProgress, State, nextIn, Reaches}
 
 -- ---- one step
 
 -- the collected lines were written, or not all of them could be
-pub record Wrote (run r : Run) : Type 0 where
+pub record Wrote (progress r : Progress) : Type 0 where
   pub written : Bool
-  pub after : r ≡ wroteRun run written
+  pub after : r ≡ wroteProgress progress written
 
 -- the unread bytes went to the front of the buffer, where there was room behind them, and a read put more there
-pub record ReadsMore (before : List ℕ) (run r : Run) (after : List ℕ) : Type 0 where
-  pub moved : Run
+pub record ReadsMore (before : List ℕ) (progress r : Progress) (after : List ℕ) : Type 0 where
+  pub moved : Progress
   pub front : List ℕ
   pub more : List ℕ
-  pub fronted : Fronted before run moved front
+  pub fronted : Fronted before progress moved front
   pub room : moved .to < length front
   pub behind : take (moved .to + length more) after ≡ take (moved .to) front ++ more
-  pub received : r ≡ receivedRun moved (length more)
+  pub received : r ≡ receivedProgress moved (length more)
   pub fits : Fits after r
   pub size : length after ≡ length before
 
-abbrev pub stateOf : List ℕ → List ℕ → List ℕ → Run → State
-stateOf cells buffer text run = record { cells = cells; buffer = buffer; text = text; run = run }
+abbrev pub stateOf : List ℕ → List ℕ → List ℕ → Progress → State
+stateOf cells buffer text progress = record { cells = cells; buffer = buffer; text = text; progress = progress }
 
 -- from a state by a step to the next state, each with the promise of the step's function
 pub data Steps : State → Next → State → Type 0 where
-  taking : (st : State) (r : Run) (text after : List ℕ) → AnswersNext (st .cells) (st .buffer) (st .run) (st .text) r text after → length text ≡ length (st .text)
-      → Steps st Answer (record { cells = after; buffer = st .buffer; text = text; run = r })
-  writing : (st : State) (r : Run) → Wrote (st .run) r → Steps st Write (record { cells = st .cells; buffer = st .buffer; text = st .text; run = r })
-  reading : (st : State) (r : Run) (buffer : List ℕ) → ReadsMore (st .buffer) (st .run) r buffer
-      → Steps st Read (record { cells = st .cells; buffer = buffer; text = st .text; run = r })
+  taking : (st : State) (r : Progress) (text after : List ℕ) → AnswersNext (st .cells) (st .buffer) (st .progress) (st .text) r text after → length text ≡ length (st .text)
+      → Steps st Take (record { cells = after; buffer = st .buffer; text = text; progress = r })
+  writing : (st : State) (r : Progress) → Wrote (st .progress) r → Steps st Write (record { cells = st .cells; buffer = st .buffer; text = st .text; progress = r })
+  reading : (st : State) (r : Progress) (buffer : List ℕ) → ReadsMore (st .buffer) (st .progress) r buffer
+      → Steps st Read (record { cells = st .cells; buffer = buffer; text = st .text; progress = r })
   ending : (st : State) → Steps st End st
 
 -- ---- the steps from the start on
 
 -- so many steps lead to the state, each the one that comes next
 pub data Turns : ℕ → State → Type 0 where
-  none : (cells buffer text : List ℕ) → bookOf cells ≡ startBook → Turns 0 (record { cells = cells; buffer = buffer; text = text; run = startRun })
+  none : (cells buffer text : List ℕ) → bookOf cells ≡ startBook → Turns 0 (record { cells = cells; buffer = buffer; text = text; progress = startProgress })
   more : (n : ℕ) (st : State) (next : Next) (after : State) → Turns n st → nextIn st ≡ next → Steps st next after → Turns (suc n) after
 
--- the state is one that the steps of a run lead to, or the write that came next in such a state failed
-pub data Runs : State → Type 0 where
-  reached : (input written : List ℕ) (st : State) → Reaches input written st → Runs st
+-- the state is one that steps lead to, or the write that came next in such a state failed
+pub data Arrives : State → Type 0 where
+  reached : (input written : List ℕ) (st : State) → Reaches input written st → Arrives st
   failed : (input written : List ℕ) (st : State) → Reaches input written st → nextIn st ≡ Write
-      → Runs (record { cells = st .cells; buffer = st .buffer; text = st .text; run = wroteRun (st .run) false })
+      → Arrives (record { cells = st .cells; buffer = st .buffer; text = st .text; progress = wroteProgress (st .progress) false })
 
 -- and its positions lie in the buffer, which has room for any record, and in the text
 pub record Goes (st : State) : Type 0 where
-  pub fits : Fits (st .buffer) (st .run)
+  pub fits : Fits (st .buffer) (st .progress)
   pub room : longest ≤ length (st .buffer)
   pub size : textSize ≤ length (st .text)
-  pub runs : Runs st
+  pub arrives : Arrives st
 
 -- ---- the whole loop
 
@@ -70,11 +70,11 @@ pub record Goes (st : State) : Type 0 where
 pub record Loops (ended : Bool) (cells : List ℕ) : Type 0 where
   pub buffer : List ℕ
   pub text : List ℕ
-  pub run : Run
+  pub progress : Progress
   pub turns : ℕ
-  pub taken : Turns turns (stateOf cells buffer text run)
-  pub goes : Goes (stateOf cells buffer text run)
-  pub ends : ended ≡ true → nextIn (stateOf cells buffer text run) ≡ End
+  pub taken : Turns turns (stateOf cells buffer text progress)
+  pub goes : Goes (stateOf cells buffer text progress)
+  pub ends : ended ≡ true → nextIn (stateOf cells buffer text progress) ≡ End
   pub all : ended ≡ false → turns ≡ 2 ^ 64 - 1
 
 -- some book is the one that it leaves

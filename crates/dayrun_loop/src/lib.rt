@@ -9,41 +9,50 @@ ghost use Rattle.stream.specs.Running.{textSize, Fits, nextIn};
 ghost use Rattle.dayrun_loop.specs.Steps.{Wrote, ReadsMore, stateOf, Steps, Goes, Loops, Answered};
 use cells::Book;
 use stream::Next;
-use stream::Run;
+use stream::Progress;
 
 // The bytes of the buffer for the input.
 const INPUT: usize = 65536;
 
 // Writes the collected lines.
-fn write_lines(run: Run, text: &[u8]) -> Run
-    requires { ⌜ (run .filled ≤ textSize) × (textSize ≤ length (now text)) ⌝ }
-    ensures { λ r. ⌜ Wrote run r ⌝ }
+fn write_lines(progress: Progress, text: &[u8]) -> Progress
+    requires { ⌜ (progress .filled ≤ textSize) × (textSize ≤ length (now text)) ⌝ }
+    ensures { λ r. ⌜ Wrote progress r ⌝ }
 {
-    let filled = run.filled;
-    stream::wrote(run, io::write_all(libc::STDOUT_FILENO, &text[..filled]))
+    let filled = progress.filled;
+    stream::wrote(
+        progress,
+        io::write_all(libc::STDOUT_FILENO, &text[..filled]),
+    )
 }
 
 // Moves what is unread to the front of the buffer, and reads once behind it. A read that fails ends the input.
-fn read_more(buffer: &mut [u8], run: Run) -> Run
-    requires { ⌜ Fits (now buffer) run × ((run .to - run .from < longest) × (longest ≤ length (now buffer))) ⌝ }
-    ensures { λ r. ⌜ ReadsMore (now (buffer .entry)) run r (now (buffer .exit)) ⌝ }
+fn read_more(buffer: &mut [u8], progress: Progress) -> Progress
+    requires { ⌜ Fits (now buffer) progress × ((progress .to - progress .from < longest) × (longest ≤ length (now buffer))) ⌝ }
+    ensures { λ r. ⌜ ReadsMore (now (buffer .entry)) progress r (now (buffer .exit)) ⌝ }
 {
-    let moved = stream::to_front(buffer, run);
+    let moved = stream::to_front(buffer, progress);
     let to = moved.to;
     let got = libc::read(libc::STDIN_FILENO, &mut buffer[to..]);
     stream::received(moved, io::count(got, &buffer[to..]))
 }
 
 // Takes the step that comes next.
-fn go_on(book: &mut Book, buffer: &mut [u8], run: Run, text: &mut [u8], next: Next) -> Run
-    requires { ⌜ Goes (stateOf (now book) (now buffer) (now text) run) × (next ≡ nextIn (stateOf (now book) (now buffer) (now text) run)) ⌝ }
-    ensures { λ r. ⌜ Steps (stateOf (now (book .entry)) (now (buffer .entry)) (now (text .entry)) run) next (stateOf (now (book .exit)) (now (buffer .exit)) (now (text .exit)) r) ⌝ }
+fn go_on(
+    book: &mut Book,
+    buffer: &mut [u8],
+    progress: Progress,
+    text: &mut [u8],
+    next: Next,
+) -> Progress
+    requires { ⌜ Goes (stateOf (now book) (now buffer) (now text) progress) × (next ≡ nextIn (stateOf (now book) (now buffer) (now text) progress)) ⌝ }
+    ensures { λ r. ⌜ Steps (stateOf (now (book .entry)) (now (buffer .entry)) (now (text .entry)) progress) next (stateOf (now (book .exit)) (now (buffer .exit)) (now (text .exit)) r) ⌝ }
 {
     match next {
-        Next::Answer => stream::answer_next(book, buffer, run, text),
-        Next::Write => write_lines(run, text),
-        Next::Read => read_more(buffer, run),
-        Next::End => run,
+        Next::Take => stream::answer_next(book, buffer, progress, text),
+        Next::Write => write_lines(progress, text),
+        Next::Read => read_more(buffer, progress),
+        Next::End => progress,
     }
 }
 
@@ -56,14 +65,14 @@ fn answer_all(book: &mut Book) -> bool
     let buffer: &mut [u8] = &mut input;
     let mut lines = [0u8; stream::TEXT];
     let text: &mut [u8] = &mut lines;
-    let mut run = stream::start();
+    let mut progress = stream::start();
     let mut turns = u64::MAX;
     while turns > 0 {
-        let next = stream::what_next(buffer, run);
+        let next = stream::what_next(buffer, progress);
         if let Next::End = next {
             return true;
         }
-        run = go_on(book, buffer, run, text, next);
+        progress = go_on(book, buffer, progress, text, next);
         turns -= 1;
     }
     false

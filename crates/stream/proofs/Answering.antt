@@ -13,7 +13,7 @@ use Rattle.rules.specs.declared.ReplyNumbers.{ReplyNumbers}
 use Rattle.cells.specs.View.{bookOf}
 use Rattle.lines.specs.Text.{lineOf, Put}
 use Rattle.stream.specs.declared.Taken.{Taken}
-use Rattle.stream.specs.declared.Run.{Run}
+use Rattle.stream.specs.declared.Progress.{Progress}
 use Rattle.stream.specs.Records.{atFront, Takes}
 use Rattle.stream.specs.Running.{unread, textSize, lineSize, Fits, AnswersNext}
 
@@ -24,28 +24,28 @@ stored text line text′ at most w l p =
     let n : length (take at text ++ line) ≡ w = length-append (take at text) line ∙ rw (length-take-le at text (omega arith), p .end) in
     rw (p .stored, sets-eq line text at (omega arith)) (take-at (take at text ++ line) (drop (at + length line) text) w n)
 
-module _ (before buffer : List ℕ) (run : Run) (text : List ℕ) (t : Taken) (n : ReplyNumbers) (w p : ℕ) (text′ after : List ℕ) (f : Fits buffer run)
-    (room : run .filled + lineSize ≤ textSize) (size : run .filled + lineSize ≤ length text) (k : Takes before (unread buffer run) t after)
-    (e : saidNumbers n ≡ said (t .answer)) (h : Put lineSize text (run .filled) (lineOf (run .position) (saidNumbers n)) w text′) (q : p ≡ (run .position + 1) % 2 ^ 64) where
+module _ (before buffer : List ℕ) (progress : Progress) (text : List ℕ) (t : Taken) (n : ReplyNumbers) (w p : ℕ) (text′ after : List ℕ) (f : Fits buffer progress)
+    (room : progress .filled + lineSize ≤ textSize) (size : progress .filled + lineSize ≤ length text) (k : Takes before (unread buffer progress) t after)
+    (e : saidNumbers n ≡ said (t .answer)) (h : Put lineSize text (progress .filled) (lineOf (progress .position) (saidNumbers n)) w text′) (q : p ≡ (progress .position + 1) % 2 ^ 64) where
   abbrev reply : Reply
-  reply = atFront (bookOf before) (unread buffer run) .reply
+  reply = atFront (bookOf before) (unread buffer progress) .reply
 
   replied : saidNumbers n ≡ reply
   replied = e ∙ k .reply
 
-  put : Put lineSize text (run .filled) (lineOf (run .position) reply) w text′
-  put = subst (λ (a : Reply). Put lineSize text (run .filled) (lineOf (run .position) a) w text′) replied h
+  put : Put lineSize text (progress .filled) (lineOf (progress .position) reply) w text′
+  put = subst (λ (a : Reply). Put lineSize text (progress .filled) (lineOf (progress .position) a) w text′) replied h
 
-  pub answers-next : AnswersNext before buffer run text
-      (record { from = run .from + t .length; to = run .to; position = p; ended = run .ended; done = eqb (n .number) 1; filled = w }) text′ after
+  pub answers-next : AnswersNext before buffer progress text
+      (record { from = progress .from + t .length; to = progress .to; position = p; ended = progress .ended; done = eqb (n .number) 1; filled = w }) text′ after
   answers-next =
       let few = put .few in
       let end = put .end in
       let within = k .within in
-      let some = length-take-le (run .to - run .from) (drop (run .from) buffer) (simp length-drop (omega arith)) in
+      let some = length-take-le (progress .to - progress .from) (drop (progress .from) buffer) (simp length-drop (omega arith)) in
       record {
         book = k .book;
-        line = stored text (lineOf (run .position) reply) text′ (run .filled) lineSize w size put;
+        line = stored text (lineOf (progress .position) reply) text′ (progress .filled) lineSize w size put;
         moved = rw (k .size, q, put .end, ap (λ (a : Reply). eqb (a .number) 1) replied) refl;
         fits = record { ordered = omega arith; inside = f .inside; room = omega arith };
         bytes = k .fit;

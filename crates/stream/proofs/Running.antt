@@ -1,4 +1,4 @@
--- What a run of the program writes does not depend on the parts that its input comes in, and is written before each read.
+-- What the program writes does not depend on the parts that its input comes in, and is written before each read.
 -- Assumes nothing.
 use Prim.Native.Nat.{ℕ, zero, suc, _+_, _-_, _≤_, _<_}
 use mathlib.Core.Path.{_≡_, refl, sym, ap, _∙_}
@@ -15,12 +15,12 @@ use Rattle.rules.specs.Records.{RecordReply, readerRefuses}
 use Rattle.rules.proofs.Records.{reading-by, readable}
 use Rattle.cells.specs.View.{bookOf}
 use Rattle.lines.specs.Text.{lineOf}
-use Rattle.stream.specs.declared.Run.{Run}
-use Rattle.stream.specs.declared.Next.the-variants.{Answer, Write, Read}
-use Rattle.stream.specs.Records.{Effect, startBook, atFront}
+use Rattle.stream.specs.declared.Progress.{Progress}
+use Rattle.stream.specs.declared.Next.the-variants.{Take, Write, Read}
+use Rattle.stream.specs.Records.{Outcome, startBook, atFront}
 use Rattle.dayrun_settled.specs.Settled.{Bytes}
 use Rattle.stream.specs.Input.{answerable, following, linesIn, linesOf}
-use Rattle.stream.specs.Running.{unread, collected, answeredRun, AnswersNext, wroteRun, Fronted, receivedRun, State, nextIn, Reaches, begins, answers, writes, reads, WritesAll, WritesAtOnce, WaitsWhereOpen}
+use Rattle.stream.specs.Running.{unread, collected, answeredProgress, AnswersNext, wroteProgress, Fronted, receivedProgress, State, nextIn, Reaches, begins, answers, writes, reads, WritesAll, WritesAtOnce, WaitsWhereOpen}
 use Rattle.stream.proofs.Taking.{front-read, front-refused}
 use Rattle.dayrun_settled.proofs.Patterns.{nothing-open}
 use Rattle.dayrun_settled.proofs.Front.{end-least}
@@ -108,7 +108,7 @@ answer-same false true s rest al fit a =
     (lt-ltb 0 (length (s ++ rest)) (omega (arith, length-append s rest, answerable-some false s a)), λ b. rw (settled-stays s rest fit a))
 answer-same false false s rest al fit a = (settled-more s rest fit a, λ b. rw (settled-stays s rest fit a))
 
--- ---- the whole run
+-- ---- all steps
 
 drop-take : (n m : ℕ) (s : List ℕ) → drop n (take m s) ≡ take (m - n) (drop n s)
 drop-take zero m s = let e : m - 0 ≡ m = omega arith in rw e
@@ -117,16 +117,16 @@ drop-take (suc n) (suc m) [] = sym (take-nil (suc m - suc n))
 drop-take (suc n) (suc m) (x ∷ s) = let e : suc m - suc n ≡ m - n = omega arith in rw e (drop-take n m s)
 
 -- the unread bytes after a record was taken from them
-unread-after : (buffer : List ℕ) (run : Run) (a : Effect) → unread buffer (answeredRun run a) ≡ drop (a .length) (unread buffer run)
-unread-after buffer run a =
-    let e : run .to - run .from - a .length ≡ run .to - (run .from + a .length) = omega arith in
-    sym (drop-take (a .length) (run .to - run .from) (drop (run .from) buffer) ∙ rw (drop-drop (a .length) (run .from) buffer, e))
+unread-after : (buffer : List ℕ) (progress : Progress) (a : Outcome) → unread buffer (answeredProgress progress a) ≡ drop (a .length) (unread buffer progress)
+unread-after buffer progress a =
+    let e : progress .to - progress .from - a .length ≡ progress .to - (progress .from + a .length) = omega arith in
+    sym (drop-take (a .length) (progress .to - progress .from) (drop (progress .from) buffer) ∙ rw (drop-drop (a .length) (progress .from) buffer, e))
 
 -- and after a read
-unread-more : (old : List ℕ) (run r : Run) (front more buffer : List ℕ) → Fronted old run r front → take (r .to + length more) buffer ≡ take (r .to) front ++ more
-    → unread buffer (receivedRun r (length more)) ≡ unread old run ++ more
-unread-more old run r front more buffer f e =
-    let z : r .from ≡ 0 = ap (λ (x : Run). x .from) (f .moved) in
+unread-more : (old : List ℕ) (progress r : Progress) (front more buffer : List ℕ) → Fronted old progress r front → take (r .to + length more) buffer ≡ take (r .to) front ++ more
+    → unread buffer (receivedProgress r (length more)) ≡ unread old progress ++ more
+unread-more old progress r front more buffer f e =
+    let z : r .from ≡ 0 = ap (λ (x : Progress). x .from) (f .moved) in
     let n : r .to + length more - 0 ≡ r .to + length more = omega arith in
     rw (z, n) (e ∙ ap (λ (s : List ℕ). s ++ more) (f .front))
 
@@ -136,47 +136,47 @@ or-false false = refl
 
 -- what is still to be printed, of the state and what follows its unread bytes
 abbrev left : Bool → State → List ℕ → List ℕ
-left e st rest = cond (st .run .done) [] (linesOf e (bookOf (st .cells)) (st .run .position) (unread (st .buffer) (st .run) ++ rest))
+left e st rest = cond (st .progress .done) [] (linesOf e (bookOf (st .cells)) (st .progress .position) (unread (st .buffer) (st .progress) ++ rest))
 
 -- the lines of the input and what follows it are those written, those collected and those still to come
 abbrev Kept : List ℕ → List ℕ → State → Type 0
 Kept input written st =
-    (e : Bool) (rest : List ℕ) → Allowed (st .run .ended) e rest
-    → linesOf e startBook 1 (input ++ rest) ≡ written ++ (collected (st .text) (st .run) ++ left e st rest)
+    (e : Bool) (rest : List ℕ) → Allowed (st .progress .ended) e rest
+    → linesOf e startBook 1 (input ++ rest) ≡ written ++ (collected (st .text) (st .progress) ++ left e st rest)
 
 module _ (input written : List ℕ) (st : State) (kept : Kept input written st) where
   abbrev now-unread : List ℕ
-  now-unread = unread (st .buffer) (st .run)
+  now-unread = unread (st .buffer) (st .progress)
 
-  abbrev effect : Effect
-  effect = atFront (bookOf (st .cells)) now-unread
+  abbrev outcome : Outcome
+  outcome = atFront (bookOf (st .cells)) now-unread
 
-  kept-answer : (r : Run) (text after : List ℕ) → nextIn st ≡ Answer → AnswersNext (st .cells) (st .buffer) (st .run) (st .text) r text after
-      → Kept input written (record { cells = after; buffer = st .buffer; text = text; run = r })
+  kept-answer : (r : Progress) (text after : List ℕ) → nextIn st ≡ Take → AnswersNext (st .cells) (st .buffer) (st .progress) (st .text) r text after
+      → Kept input written (record { cells = after; buffer = st .buffer; text = text; progress = r })
   kept-answer r text after t a e rest al =
-      let h = answering now-unread (st .run) t in
-      let allowed : Allowed (st .run .ended) e rest = rw (a .moved) at al in
-      let same = answer-same (st .run .ended) e now-unread rest allowed (a .bytes) (h .known) in
+      let h = answering now-unread (st .progress) t in
+      let allowed : Allowed (st .progress .ended) e rest = rw (a .moved) at al in
+      let same = answer-same (st .progress .ended) e now-unread rest allowed (a .bytes) (h .known) in
       let b : Book = bookOf (st .cells) in
-      let k : ℕ = st .run .position in
-      let line : List ℕ = lineOf k (effect .reply) in
+      let k : ℕ = st .progress .position in
+      let line : List ℕ = lineOf k (outcome .reply) in
       let next : linesOf e b k (now-unread ++ rest)
-      ≡ line ++ cond (eqb (effect .reply .number) 1) [] (linesOf e (effect .book) (following k) (drop (effect .length) now-unread ++ rest))
-      = lines-next e b k (now-unread ++ rest) (same .0) ∙ rw (same .1 b, drop-append-le (effect .length) now-unread rest (front-size b now-unread .1)) in
-      rw (a .line, a .book, a .moved, unread-after (st .buffer) (st .run) effect, append-assoc (collected (st .text) (st .run)) line _, ← next)
+      ≡ line ++ cond (eqb (outcome .reply .number) 1) [] (linesOf e (outcome .book) (following k) (drop (outcome .length) now-unread ++ rest))
+      = lines-next e b k (now-unread ++ rest) (same .0) ∙ rw (same .1 b, drop-append-le (outcome .length) now-unread rest (front-size b now-unread .1)) in
+      rw (a .line, a .book, a .moved, unread-after (st .buffer) (st .progress) outcome, append-assoc (collected (st .text) (st .progress)) line _, ← next)
       (rw (h .going) at (kept e rest allowed))
 
   kept-write : nextIn st ≡ Write
-      → Kept input (written ++ collected (st .text) (st .run)) (record { cells = st .cells; buffer = st .buffer; text = st .text; run = wroteRun (st .run) true })
-  kept-write t e rest al = rw (or-false (st .run .done), append-assoc written (collected (st .text) (st .run)) (left e st rest)) (kept e rest al)
+      → Kept input (written ++ collected (st .text) (st .progress)) (record { cells = st .cells; buffer = st .buffer; text = st .text; progress = wroteProgress (st .progress) true })
+  kept-write t e rest al = rw (or-false (st .progress .done), append-assoc written (collected (st .text) (st .progress)) (left e st rest)) (kept e rest al)
 
-  kept-read : (r : Run) (front more buffer : List ℕ) → nextIn st ≡ Read → Fronted (st .buffer) (st .run) r front
+  kept-read : (r : Progress) (front more buffer : List ℕ) → nextIn st ≡ Read → Fronted (st .buffer) (st .progress) r front
       → take (r .to + length more) buffer ≡ take (r .to) front ++ more
-      → Kept (input ++ more) written (record { cells = st .cells; buffer = buffer; text = st .text; run = receivedRun r (length more) })
+      → Kept (input ++ more) written (record { cells = st .cells; buffer = buffer; text = st .text; progress = receivedProgress r (length more) })
   kept-read r front more buffer t f m e rest al =
-      let h = reading-on now-unread (st .run) t in
-      let opened : Allowed (st .run .ended) e (more ++ rest) = λ q. absurd (true≢false (sym q ∙ h .open-input)) in
-      rw (append-assoc input more rest, unread-more (st .buffer) (st .run) r front more buffer f m, append-assoc now-unread more rest, f .moved) (kept e (more ++ rest) opened)
+      let h = reading-on now-unread (st .progress) t in
+      let opened : Allowed (st .progress .ended) e (more ++ rest) = λ q. absurd (true≢false (sym q ∙ h .open-input)) in
+      rw (append-assoc input more rest, unread-more (st .buffer) (st .progress) r front more buffer f m, append-assoc now-unread more rest, f .moved) (kept e (more ++ rest) opened)
 
 kept : {input written : List ℕ} {st : State} → Reaches input written st → Kept input written st
 kept (begins cells buffer text b) = λ e rest al. rw b refl
@@ -186,23 +186,23 @@ kept (reads {input} {written} {st} r front more buffer s t f m) = kept-read inpu
 
 pub writes-at-once : WritesAtOnce
 writes-at-once input written st s t =
-    let h = reading-on (unread (st .buffer) (st .run)) (st .run) t in
-    let none = lines-none false (bookOf (st .cells)) (st .run .position) (unread (st .buffer) (st .run)) (rw (h .open-input) at (h .unknown)) in
-    sym (rw (append-nil input, append-nil (unread (st .buffer) (st .run)), h .empty, h .going, none, append-nil written) at (kept s false [] (λ q. absurd (true≢false (sym q ∙ h .open-input)))))
+    let h = reading-on (unread (st .buffer) (st .progress)) (st .progress) t in
+    let none = lines-none false (bookOf (st .cells)) (st .progress .position) (unread (st .buffer) (st .progress)) (rw (h .open-input) at (h .unknown)) in
+    sym (rw (append-nil input, append-nil (unread (st .buffer) (st .progress)), h .empty, h .going, none, append-nil written) at (kept s false [] (λ q. absurd (true≢false (sym q ∙ h .open-input)))))
 
 pub waits-where-open : WaitsWhereOpen
 unfolding answerable
 waits-where-open st t =
-    let h = reading-on (unread (st .buffer) (st .run)) (st .run) t in
-    unsettled-open (unread (st .buffer) (st .run)) (rw (h .open-input) at (h .unknown))
+    let h = reading-on (unread (st .buffer) (st .progress)) (st .progress) t in
+    unsettled-open (unread (st .buffer) (st .progress)) (rw (h .open-input) at (h .unknown))
 
 -- nothing is left where the program is done, or no byte is
-none-left : (st : State) (rest : List ℕ) → (st .run .ended ≡ true → rest ≡ [])
-    → (st .run .done ≡ true) ⊎ ((st .run .ended ≡ true) × (answerable (st .run .ended) (unread (st .buffer) (st .run)) ≡ false)) → left true st rest ≡ []
+none-left : (st : State) (rest : List ℕ) → (st .progress .ended ≡ true → rest ≡ [])
+    → (st .progress .done ≡ true) ⊎ ((st .progress .ended ≡ true) × (answerable (st .progress .ended) (unread (st .buffer) (st .progress)) ≡ false)) → left true st rest ≡ []
 none-left st rest last (inl d) = rw d refl
 none-left st rest last (inr (e, a)) =
-    let none = lines-none true (bookOf (st .cells)) (st .run .position) (unread (st .buffer) (st .run)) (rw e at a) in
-    rw (last e, append-nil (unread (st .buffer) (st .run)), none) (either (st .run .done))
+    let none = lines-none true (bookOf (st .cells)) (st .progress .position) (unread (st .buffer) (st .progress)) (rw e at a) in
+    rw (last e, append-nil (unread (st .buffer) (st .progress)), none) (either (st .progress .done))
   where
     either : (d : Bool) → cond {A = List ℕ} d [] [] ≡ []
     either true = refl
@@ -210,5 +210,5 @@ none-left st rest last (inr (e, a)) =
 
 pub writes-all : WritesAll
 writes-all input written rest st s t last =
-    let h = ending (unread (st .buffer) (st .run)) (st .run) t in
+    let h = ending (unread (st .buffer) (st .progress)) (st .progress) t in
     sym (kept s true rest (λ q. (refl, last q)) ∙ rw (h .0, none-left st rest last (h .1)) (append-nil written))

@@ -52,13 +52,13 @@ pub record AnswersRecord (before : List ℕ) (c : CallRecord) (r : Answer) (afte
 -- ---- the record at the front of bytes
 
 -- the reply to a record, the book after it, and the record's length
-pub record Effect : Type 0 where
+pub record Outcome : Type 0 where
   pub reply : Reply
   pub book : Book
   pub length : ℕ
 
 -- a record that can't be read leaves the book; else its call is applied
-unfoldable pub atFront : Book → List ℕ → Effect
+unfoldable pub atFront : Book → List ℕ → Outcome
 atFront b s =
     let c : Call = callMade (reading s .call) in
     cond (eqb (reading s .reply .number) 0) (record { reply = applied b c .reply; book = applied b c .book; length = reading s .length })

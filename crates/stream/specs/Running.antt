@@ -1,4 +1,4 @@
--- The program's state and steps, and what a run of them writes, however its input comes in parts.
+-- The program's state and steps, and what they write, however the input comes in parts.
 -- Assumes nothing.
 use Prim.Native.Nat.{ℕ, _+_, _-_, _≤_, _<_}
 use mathlib.Core.Path.{_≡_}
@@ -8,22 +8,22 @@ use lib.Dec.{eqb, leb, ltb}
 use lib.ListN.{length, take, drop}
 use Rattle.cells.specs.View.{bookOf}
 use Rattle.lines.specs.Text.{lineOf}
-use Rattle.stream.specs.declared.Run.{Run}
+use Rattle.stream.specs.declared.Progress.{Progress}
 use Rattle.stream.specs.declared.Next.{Next}
-use Rattle.stream.specs.declared.Next.the-variants.{Answer, Write, Read, End}
-use Rattle.stream.specs.Records.{Effect, startBook, atFront}
+use Rattle.stream.specs.declared.Next.the-variants.{Take, Write, Read, End}
+use Rattle.stream.specs.Records.{Outcome, startBook, atFront}
 use Rattle.dayrun_settled.specs.Settled.{Bytes, Open}
 use Rattle.stream.specs.Input.{answerable, following, linesOf, printed}
 
 -- ---- the state
 
 -- the bytes that were read from the input and not yet taken
-abbrev pub unread : List ℕ → Run → List ℕ
-unread buffer run = take (run .to - run .from) (drop (run .from) buffer)
+abbrev pub unread : List ℕ → Progress → List ℕ
+unread buffer progress = take (progress .to - progress .from) (drop (progress .from) buffer)
 
 -- the lines that wait to be written
-abbrev pub collected : List ℕ → Run → List ℕ
-collected text run = take (run .filled) text
+abbrev pub collected : List ℕ → Progress → List ℕ
+collected text progress = take (progress .filled) text
 
 -- how many bytes of lines are collected at most
 abbrev pub textSize : ℕ
@@ -33,99 +33,99 @@ textSize = 4096
 abbrev pub lineSize : ℕ
 lineSize = 84
 
--- the run's positions lie in the buffer and in the text
-pub record Fits (buffer : List ℕ) (run : Run) : Type 0 where
-  pub ordered : run .from ≤ run .to
-  pub inside : run .to ≤ length buffer
-  pub room : run .filled ≤ textSize
+-- its positions lie in the buffer and in the text
+pub record Fits (buffer : List ℕ) (progress : Progress) : Type 0 where
+  pub ordered : progress .from ≤ progress .to
+  pub inside : progress .to ≤ length buffer
+  pub room : progress .filled ≤ textSize
 
 -- ---- what comes next
 
 -- the program goes on, a line more fits the text, and the next record can be answered
-abbrev pub ready : List ℕ → Run → Bool
-ready bytes run = not (run .done) && leb (run .filled + lineSize) textSize && answerable (run .ended) bytes
+abbrev pub ready : List ℕ → Progress → Bool
+ready bytes progress = not (progress .done) && leb (progress .filled + lineSize) textSize && answerable (progress .ended) bytes
 
 -- that record; else the collected lines are written; else the end, or a read
-unfoldable pub nextOf : List ℕ → Run → Next
-nextOf bytes run = cond (ready bytes run) Answer (cond (ltb 0 (run .filled)) Write (cond (run .done || run .ended) End Read))
+unfoldable pub nextOf : List ℕ → Progress → Next
+nextOf bytes progress = cond (ready bytes progress) Take (cond (ltb 0 (progress .filled)) Write (cond (progress .done || progress .ended) End Read))
 
 -- ---- the steps
 
 -- nothing is read, and the first position is 1
-abbrev pub startRun : Run
-startRun = record { from = 0; to = 0; position = 1; ended = false; done = false; filled = 0 }
+abbrev pub startProgress : Progress
+startProgress = record { from = 0; to = 0; position = 1; ended = false; done = false; filled = 0 }
 
--- after a record with this effect was answered: a 1 is the last
-abbrev pub answeredRun : Run → Effect → Run
-answeredRun run a =
+-- after a record with this outcome was answered: a 1 is the last
+abbrev pub answeredProgress : Progress → Outcome → Progress
+answeredProgress progress a =
     record {
-      from = run .from + a .length;
-      to = run .to;
-      position = following (run .position);
-      ended = run .ended;
+      from = progress .from + a .length;
+      to = progress .to;
+      position = following (progress .position);
+      ended = progress .ended;
       done = eqb (a .reply .number) 1;
-      filled = run .filled + length (lineOf (run .position) (a .reply));
+      filled = progress .filled + length (lineOf (progress .position) (a .reply));
     }
 
 -- the next record is answered, and its line collected
-pub record AnswersNext (before buffer : List ℕ) (run : Run) (text : List ℕ) (r : Run) (text′ after : List ℕ) : Type 0 where
-  pub book : bookOf after ≡ atFront (bookOf before) (unread buffer run) .book
-  pub line : collected text′ r ≡ collected text run ++ lineOf (run .position) (atFront (bookOf before) (unread buffer run) .reply)
-  pub moved : r ≡ answeredRun run (atFront (bookOf before) (unread buffer run))
+pub record AnswersNext (before buffer : List ℕ) (progress : Progress) (text : List ℕ) (r : Progress) (text′ after : List ℕ) : Type 0 where
+  pub book : bookOf after ≡ atFront (bookOf before) (unread buffer progress) .book
+  pub line : collected text′ r ≡ collected text progress ++ lineOf (progress .position) (atFront (bookOf before) (unread buffer progress) .reply)
+  pub moved : r ≡ answeredProgress progress (atFront (bookOf before) (unread buffer progress))
   pub fits : Fits buffer r
-  pub bytes : Bytes (unread buffer run)
+  pub bytes : Bytes (unread buffer progress)
 
 -- the lines were written; where they couldn't be, the program is done
-abbrev pub wroteRun : Run → Bool → Run
-wroteRun run written =
-    record { from = run .from; to = run .to; position = run .position; ended = run .ended; done = run .done || not written; filled = 0 }
+abbrev pub wroteProgress : Progress → Bool → Progress
+wroteProgress progress written =
+    record { from = progress .from; to = progress .to; position = progress .position; ended = progress .ended; done = progress .done || not written; filled = 0 }
 
 -- the same unread bytes, from the front of the buffer on
-abbrev pub frontRun : Run → Run
-frontRun run =
-    record { from = 0; to = run .to - run .from; position = run .position; ended = run .ended; done = run .done; filled = run .filled }
+abbrev pub frontProgress : Progress → Progress
+frontProgress progress =
+    record { from = 0; to = progress .to - progress .from; position = progress .position; ended = progress .ended; done = progress .done; filled = progress .filled }
 
 -- the unread bytes are at the front of the buffer
-pub record Fronted (before : List ℕ) (run r : Run) (after : List ℕ) : Type 0 where
-  pub moved : r ≡ frontRun run
-  pub front : take (r .to) after ≡ unread before run
+pub record Fronted (before : List ℕ) (progress r : Progress) (after : List ℕ) : Type 0 where
+  pub moved : r ≡ frontProgress progress
+  pub front : take (r .to) after ≡ unread before progress
   pub fits : Fits after r
 
 -- a read brought some bytes more; none is the end of the input
-abbrev pub receivedRun : Run → ℕ → Run
-receivedRun run more =
-    record { from = run .from; to = run .to + more; position = run .position; ended = eqb more 0; done = run .done; filled = run .filled }
+abbrev pub receivedProgress : Progress → ℕ → Progress
+receivedProgress progress more =
+    record { from = progress .from; to = progress .to + more; position = progress .position; ended = eqb more 0; done = progress .done; filled = progress .filled }
 
--- ---- a run of the program
+-- ---- steps in a row
 
--- the cells of the book, the input's buffer, the text and the run
+-- the cells of the book, the input's buffer, the text and the progress
 pub record State : Type 0 where
   pub cells : List ℕ
   pub buffer : List ℕ
   pub text : List ℕ
-  pub run : Run
+  pub progress : Progress
 
 -- what comes next there
 abbrev pub nextIn : State → Next
-nextIn st = nextOf (unread (st .buffer) (st .run)) (st .run)
+nextIn st = nextOf (unread (st .buffer) (st .progress)) (st .progress)
 
 -- the states that steps lead to, each with the promise of its function: what was read of the input so far, what was written, the state.
 -- A read puts bytes behind those at the front of the buffer, as many as it likes
 pub data Reaches : List ℕ → List ℕ → State → Type 0 where
-  begins : (cells buffer text : List ℕ) → bookOf cells ≡ startBook → Reaches [] [] (record { cells = cells; buffer = buffer; text = text; run = startRun })
-  answers : {input written : List ℕ} {st : State} (r : Run) (text after : List ℕ) → Reaches input written st → nextIn st ≡ Answer
-      → AnswersNext (st .cells) (st .buffer) (st .run) (st .text) r text after
-      → Reaches input written (record { cells = after; buffer = st .buffer; text = text; run = r })
+  begins : (cells buffer text : List ℕ) → bookOf cells ≡ startBook → Reaches [] [] (record { cells = cells; buffer = buffer; text = text; progress = startProgress })
+  answers : {input written : List ℕ} {st : State} (r : Progress) (text after : List ℕ) → Reaches input written st → nextIn st ≡ Take
+      → AnswersNext (st .cells) (st .buffer) (st .progress) (st .text) r text after
+      → Reaches input written (record { cells = after; buffer = st .buffer; text = text; progress = r })
   writes : {input written : List ℕ} {st : State} → Reaches input written st → nextIn st ≡ Write
-      → Reaches input (written ++ collected (st .text) (st .run)) (record { cells = st .cells; buffer = st .buffer; text = st .text; run = wroteRun (st .run) true })
-  reads : {input written : List ℕ} {st : State} (r : Run) (front more buffer : List ℕ) → Reaches input written st → nextIn st ≡ Read
-      → Fronted (st .buffer) (st .run) r front → take (r .to + length more) buffer ≡ take (r .to) front ++ more
-      → Reaches (input ++ more) written (record { cells = st .cells; buffer = buffer; text = st .text; run = receivedRun r (length more) })
+      → Reaches input (written ++ collected (st .text) (st .progress)) (record { cells = st .cells; buffer = st .buffer; text = st .text; progress = wroteProgress (st .progress) true })
+  reads : {input written : List ℕ} {st : State} (r : Progress) (front more buffer : List ℕ) → Reaches input written st → nextIn st ≡ Read
+      → Fronted (st .buffer) (st .progress) r front → take (r .to + length more) buffer ≡ take (r .to) front ++ more
+      → Reaches (input ++ more) written (record { cells = st .cells; buffer = buffer; text = st .text; progress = receivedProgress r (length more) })
 
--- at the end of a run all lines of the whole input are written; where the run ended by itself, there may be a rest that it didn't read
+-- at the end all lines of the whole input are written; where the program ended by itself, there may be a rest that it didn't read
 abbrev pub WritesAll : Type 0
 WritesAll =
-    (input written rest : List ℕ) (st : State) → Reaches input written st → nextIn st ≡ End → (st .run .ended ≡ true → rest ≡ [])
+    (input written rest : List ℕ) (st : State) → Reaches input written st → nextIn st ≡ End → (st .progress .ended ≡ true → rest ≡ [])
     → written ≡ printed startBook 1 (input ++ rest)
 
 -- before each read, the lines of all records that are settled are written, and no others
@@ -134,7 +134,7 @@ WritesAtOnce = (input written : List ℕ) (st : State) → Reaches input written
 
 -- and the bytes that are left may still become a record
 abbrev pub WaitsWhereOpen : Type 0
-WaitsWhereOpen = (st : State) → nextIn st ≡ Read → Open (unread (st .buffer) (st .run))
+WaitsWhereOpen = (st : State) → nextIn st ≡ Read → Open (unread (st .buffer) (st .progress))
 
 -- ---- the example of document 01
 
@@ -162,8 +162,8 @@ exampleText =
 abbrev pub ExamplePrinted : Type 0
 ExamplePrinted = printed startBook 1 exampleInput ≡ exampleText
 
--- and so a run that comes to its end over them writes these, in whatever parts it reads them
+-- and so the program writes these where it comes to its end over them, in whatever parts it reads them
 abbrev pub ExampleWritten : Type 0
 ExampleWritten =
-    (input written rest : List ℕ) (st : State) → Reaches input written st → nextIn st ≡ End → (st .run .ended ≡ true → rest ≡ [])
+    (input written rest : List ℕ) (st : State) → Reaches input written st → nextIn st ≡ End → (st .progress .ended ≡ true → rest ≡ [])
     → input ++ rest ≡ exampleInput → written ≡ exampleText

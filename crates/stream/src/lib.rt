@@ -8,7 +8,7 @@ ghost use Rattle.cells.specs.View.{bookOf};
 ghost use Rattle.stream.specs.Records.{startBook, AnswersRecord, Takes};
 ghost use Rattle.dayrun_settled.specs.Settled.{longest};
 ghost use Rattle.stream.specs.Input.{answerable};
-ghost use Rattle.stream.specs.Running.{textSize, lineSize, unread, Fits, ready, nextOf, startRun, AnswersNext, wroteRun, Fronted, receivedRun};
+ghost use Rattle.stream.specs.Running.{textSize, lineSize, unread, Fits, ready, nextOf, startProgress, AnswersNext, wroteProgress, Fronted, receivedProgress};
 use cells::Book;
 use rules::Answer;
 use rules::CallRecord;
@@ -24,7 +24,7 @@ struct Taken {
 
 // The unread bytes stand in the input's buffer from `from` up to `to`, the collected lines in the first `filled` bytes of the text.
 // The position is that of the next record.
-pub struct Run {
+pub struct Progress {
     pub from: usize,
     pub to: usize,
     pub position: u64,
@@ -33,9 +33,9 @@ pub struct Run {
     pub filled: usize,
 }
 
-// What the program does next: answers a record, writes the collected lines, reads, or ends.
+// What the program does next: takes a record and answers it, writes the collected lines, reads, or ends.
 pub enum Next {
-    Answer,
+    Take,
     Write,
     Read,
     End,
@@ -91,10 +91,10 @@ fn take_record(book: &mut Book, bytes: &[u8]) -> Taken
 // ---- the program's steps
 
 // Nothing is read yet, and the first position is 1.
-pub fn start() -> Run
-    ensures { λ r. ⌜ r ≡ startRun ⌝ }
+pub fn start() -> Progress
+    ensures { λ r. ⌜ r ≡ startProgress ⌝ }
 {
-    Run {
+    Progress {
         from: 0,
         to: 0,
         position: 1,
@@ -115,114 +115,114 @@ fn is_answerable(bytes: &[u8], ended: bool) -> bool
 }
 
 // The program goes on, and a line more fits the text.
-fn has_room(run: Run) -> bool
-    requires { ⌜ run .filled ≤ textSize ⌝ }
-    ensures { λ r. ⌜ r ≡ (not (run .done) && leb (run .filled + lineSize) textSize) ⌝ }
+fn has_room(progress: Progress) -> bool
+    requires { ⌜ progress .filled ≤ textSize ⌝ }
+    ensures { λ r. ⌜ r ≡ (not (progress .done) && leb (progress .filled + lineSize) textSize) ⌝ }
 {
-    if run.done {
+    if progress.done {
         return false;
     }
-    run.filled + lines::LINE <= TEXT
+    progress.filled + lines::LINE <= TEXT
 }
 
 // The next record is answered now.
-fn is_ready(bytes: &[u8], run: Run) -> bool
-    requires { ⌜ run .filled ≤ textSize ⌝ }
-    ensures { λ r. ⌜ r ≡ ready (now (bytes .entry)) run ⌝ }
+fn is_ready(bytes: &[u8], progress: Progress) -> bool
+    requires { ⌜ progress .filled ≤ textSize ⌝ }
+    ensures { λ r. ⌜ r ≡ ready (now (bytes .entry)) progress ⌝ }
 {
-    if !has_room(run) {
+    if !has_room(progress) {
         return false;
     }
-    is_answerable(bytes, run.ended)
+    is_answerable(bytes, progress.ended)
 }
 
 // It reads only where nothing is settled and nothing is collected.
-pub fn what_next(buffer: &[u8], run: Run) -> Next
-    requires { ⌜ Fits (now buffer) run ⌝ }
-    ensures { λ r. ⌜ r ≡ nextOf (unread (now (buffer .entry)) run) run ⌝ }
+pub fn what_next(buffer: &[u8], progress: Progress) -> Next
+    requires { ⌜ Fits (now buffer) progress ⌝ }
+    ensures { λ r. ⌜ r ≡ nextOf (unread (now (buffer .entry)) progress) progress ⌝ }
 {
-    let from = run.from;
-    let to = run.to;
-    if is_ready(&buffer[from..to], run) {
-        return Next::Answer;
+    let from = progress.from;
+    let to = progress.to;
+    if is_ready(&buffer[from..to], progress) {
+        return Next::Take;
     }
-    if run.filled > 0 {
+    if progress.filled > 0 {
         return Next::Write;
     }
-    if run.done {
+    if progress.done {
         return Next::End;
     }
-    if run.ended {
+    if progress.ended {
         return Next::End;
     }
     Next::Read
 }
 
 // Answers the next record and collects its line. The program is done after a 1.
-pub fn answer_next(book: &mut Book, buffer: &[u8], run: Run, text: &mut [u8]) -> Run
-    requires { ⌜ Fits (now buffer) run × ((run .filled + lineSize ≤ textSize) × (textSize ≤ length (now text))) ⌝ }
-    ensures { λ r. ⌜ AnswersNext (now (book .entry)) (now (buffer .entry)) run (now (text .entry)) r (now (text .exit)) (now (book .exit)) ⌝ }
+pub fn answer_next(book: &mut Book, buffer: &[u8], progress: Progress, text: &mut [u8]) -> Progress
+    requires { ⌜ Fits (now buffer) progress × ((progress .filled + lineSize ≤ textSize) × (textSize ≤ length (now text))) ⌝ }
+    ensures { λ r. ⌜ AnswersNext (now (book .entry)) (now (buffer .entry)) progress (now (text .entry)) r (now (text .exit)) (now (book .exit)) ⌝ }
 {
-    let from = run.from;
-    let to = run.to;
+    let from = progress.from;
+    let to = progress.to;
     let taken = take_record(book, &buffer[from..to]);
     let answer = taken.answer;
     let reply = daybook::numbers(answer);
-    let filled = lines::write_line(text, run.filled, run.position, reply);
-    Run {
+    let filled = lines::write_line(text, progress.filled, progress.position, reply);
+    Progress {
         from: from + taken.length,
         to,
-        position: std::num::wrapping_add_u64(run.position, 1),
-        ended: run.ended,
+        position: std::num::wrapping_add_u64(progress.position, 1),
+        ended: progress.ended,
         done: reply.number == 1,
         filled,
     }
 }
 
 // The collected lines were written. Where they couldn't be, the program is done.
-pub fn wrote(run: Run, written: bool) -> Run
-    ensures { λ r. ⌜ r ≡ wroteRun run written ⌝ }
+pub fn wrote(progress: Progress, written: bool) -> Progress
+    ensures { λ r. ⌜ r ≡ wroteProgress progress written ⌝ }
 {
-    Run {
-        from: run.from,
-        to: run.to,
-        position: run.position,
-        ended: run.ended,
-        done: run.done || !written,
+    Progress {
+        from: progress.from,
+        to: progress.to,
+        position: progress.position,
+        ended: progress.ended,
+        done: progress.done || !written,
         filled: 0,
     }
 }
 
 // Moves the unread bytes to the front of the buffer.
-pub fn to_front(buffer: &mut [u8], run: Run) -> Run
-    requires { ⌜ Fits (now buffer) run × (run .to - run .from < longest) ⌝ }
-    ensures { λ r. ⌜ Fronted (now (buffer .entry)) run r (now (buffer .exit)) ⌝ }
+pub fn to_front(buffer: &mut [u8], progress: Progress) -> Progress
+    requires { ⌜ Fits (now buffer) progress × (progress .to - progress .from < longest) ⌝ }
+    ensures { λ r. ⌜ Fronted (now (buffer .entry)) progress r (now (buffer .exit)) ⌝ }
 {
-    let from = run.from;
-    let to = run.to;
+    let from = progress.from;
+    let to = progress.to;
     let mut rest = [0u8; dayrun_settled::LONGEST];
     let count = bytes::copy(&buffer[from..to], &mut rest);
-    Run {
+    Progress {
         from: 0,
         to: bytes::copy(&rest[..count], buffer),
-        position: run.position,
-        ended: run.ended,
-        done: run.done,
-        filled: run.filled,
+        position: progress.position,
+        ended: progress.ended,
+        done: progress.done,
+        filled: progress.filled,
     }
 }
 
 // A read brought bytes more. None is the end of the input.
-pub fn received(run: Run, more: usize) -> Run
-    requires { ⌜ run .to + more < 2 ^ 64 ⌝ }
-    ensures { λ r. ⌜ r ≡ receivedRun run more ⌝ }
+pub fn received(progress: Progress, more: usize) -> Progress
+    requires { ⌜ progress .to + more < 2 ^ 64 ⌝ }
+    ensures { λ r. ⌜ r ≡ receivedProgress progress more ⌝ }
 {
-    Run {
-        from: run.from,
-        to: run.to + more,
-        position: run.position,
+    Progress {
+        from: progress.from,
+        to: progress.to + more,
+        position: progress.position,
         ended: more == 0,
-        done: run.done,
-        filled: run.filled,
+        done: progress.done,
+        filled: progress.filled,
     }
 }

@@ -11,10 +11,10 @@ use Rattle.dayrun_loop.proofs.answer_all.Statement.{statement}
 use Rattle.dayrun_loop.proofs.answer_all.Tie as tie
 
 abbrev Inv-loop : tie.InvT-loop
-Inv-loop book₀ buffer₀ text₀ run₀ turns₀ book buffer text run turns = Goes (stateOf book buffer text run) × ((turns < 2 ^ 64) × Turns (2 ^ 64 - 1 - turns) (stateOf book buffer text run))
+Inv-loop book₀ buffer₀ text₀ progress₀ turns₀ book buffer text progress turns = Goes (stateOf book buffer text progress) × ((turns < 2 ^ 64) × Turns (2 ^ 64 - 1 - turns) (stateOf book buffer text progress))
 
 abbrev μ-loop : tie.MeasureT-loop
-μ-loop book₀ buffer₀ text₀ run₀ turns₀ book buffer text run turns = turns
+μ-loop book₀ buffer₀ text₀ progress₀ turns₀ book buffer text progress turns = turns
 
 loop-holds : tie.Need-loop-holds Inv-loop μ-loop
 loop-holds c =
@@ -32,7 +32,7 @@ returns c =
     record {
       buffer = _;
       text = _;
-      run = _;
+      progress = _;
       turns = _;
       taken = l .loop .inv .1 .1;
       goes = l .loop .inv .0;
@@ -62,7 +62,7 @@ returns-2 c =
     record {
       buffer = _;
       text = _;
-      run = _;
+      progress = _;
       turns = _;
       taken = l .loop .inv .1 .1;
       goes = l .loop .inv .0;

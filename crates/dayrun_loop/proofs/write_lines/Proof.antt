@@ -8,7 +8,7 @@ use Rattle.dayrun_loop.proofs.write_lines.Statement.{statement}
 use Rattle.dayrun_loop.proofs.write_lines.Tie as tie
 
 slice-aggregate-write-all : tie.Need-slice-aggregate-write-all
-slice-aggregate-write-all c = sym (length-take-le (c .before .before .args .run .filled) (c .before .before .args .text .now) (omega arith))
+slice-aggregate-write-all c = sym (length-take-le (c .before .before .args .progress .filled) (c .before .before .args .text .now) (omega arith))
 
 returns : tie.Need-returns
 returns c = record { written = c .before .write-all .result; after = c .wrote .ensures }

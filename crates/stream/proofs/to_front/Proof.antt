@@ -12,10 +12,10 @@ use Rattle.stream.proofs.to_front.Statement.{statement}
 use Rattle.stream.proofs.to_front.Tie as tie
 
 -- what the first copy holds
-held : (c : tie.After-copy) → let a = c .before .before .before .before .before .args in take (c .copy .result) (c .copy .last .1 .0) ≡ unread (now (a .buffer)) (a .run)
-held c = let a = c .before .before .before .before .before .args in first-copy (unread (now (a .buffer)) (a .run)) _ _ _ (c .copy .ensures .0) (c .copy .ensures .1)
+held : (c : tie.After-copy) → let a = c .before .before .before .before .before .args in take (c .copy .result) (c .copy .last .1 .0) ≡ unread (now (a .buffer)) (a .progress)
+held c = let a = c .before .before .before .before .before .args in first-copy (unread (now (a .buffer)) (a .progress)) _ _ _ (c .copy .ensures .0) (c .copy .ensures .1)
 
-size : (c : tie.After-copy) → let a = c .before .before .before .before .before .args in length (unread (now (a .buffer)) (a .run)) ≡ a .run .to - a .run .from
+size : (c : tie.After-copy) → let a = c .before .before .before .before .before .args in length (unread (now (a .buffer)) (a .progress)) ≡ a .progress .to - a .progress .from
 size c = kept-size _ _ (c .before .before .before .before .before .pre .0)
 
 slice-aggregate-copy-2 : tie.Need-slice-aggregate-copy-2

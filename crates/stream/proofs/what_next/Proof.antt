@@ -2,12 +2,12 @@
 -- Assumes nothing.
 use mathlib.Core.Path.{sym, _∙_}
 use borrow.Author.Needs.{needs}
-use Rattle.stream.proofs.Nexts.{to-answer, to-write, to-end-done, to-end-ended, to-read}
+use Rattle.stream.proofs.Nexts.{to-take, to-write, to-end-done, to-end-ended, to-read}
 use Rattle.stream.proofs.what_next.Statement.{statement}
 use Rattle.stream.proofs.what_next.Tie as tie
 
 returns : tie.Need-returns
-returns c = to-answer _ _ (sym (c .before .is-ready .ensures) ∙ c .if1 .taken)
+returns c = to-take _ _ (sym (c .before .is-ready .ensures) ∙ c .if1 .taken)
 
 returns-2 : tie.Need-returns-2
 returns-2 c = to-write _ _ (sym (c .before .before .before .is-ready .ensures) ∙ c .before .before .if1 .left) (c .if2 .taken)
