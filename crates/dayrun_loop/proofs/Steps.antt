@@ -15,7 +15,7 @@ use Rattle.stream.specs.declared.Next.the-variants.{Take, Write, Read, End}
 use Rattle.stream.specs.Records.{startBook}
 use Rattle.stream.specs.Running.{textSize, nextOf, unread, startProgress, AnswersNext, wroteProgress, Fronted, receivedProgress, State, nextIn, begins, answers, writes, reads}
 use Rattle.stream.proofs.Nexts.{answering, reading-on}
-use Rattle.dayrun_loop.specs.Steps.{Wrote, ReadsMore, stateOf, Steps, taking, writing, reading, ending, Turns, none, Arrives, reached, failed, Goes}
+use Rattle.dayrun_loop.specs.Steps.{ReadsMore, stateOf, Steps, taking, writing, reading, ending, Turns, none, Arrives, reached, failed, Goes}
 
 -- ---- the functions that read
 

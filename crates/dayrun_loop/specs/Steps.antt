@@ -1,6 +1,6 @@
 -- Each turn of the loop is the step that comes next, as `stream` describes it.
 -- Assumes nothing.
-use Prim.Native.Nat.{ℕ, zero, suc, _+_, _-_, _^_, _≤_, _<_}
+use Prim.Native.Nat.{ℕ, suc, _+_, _-_, _^_, _≤_, _<_}
 use mathlib.Core.Path.{_≡_}
 use mathlib.Core.Bool.{Bool, true, false}
 use mathlib.Core.List.{List, _++_}
@@ -46,10 +46,10 @@ pub data Steps : State → Next → State → Type 0 where
 
 -- ---- the steps from the start on
 
--- so many steps lead to the state, each the one that comes next
+-- so many steps lead to the state, each the one that comes next, and none of them the end
 pub data Turns : ℕ → State → Type 0 where
   none : (cells buffer text : List ℕ) → bookOf cells ≡ startBook → Turns 0 (record { cells = cells; buffer = buffer; text = text; progress = startProgress })
-  more : (n : ℕ) (st : State) (next : Next) (after : State) → Turns n st → nextIn st ≡ next → Steps st next after → Turns (suc n) after
+  more : (n : ℕ) (st : State) (next : Next) (after : State) → Turns n st → nextIn st ≡ next → (next ≡ End → ⊥) → Steps st next after → Turns (suc n) after
 
 -- the state is one that steps lead to, or the write that came next in such a state failed
 pub data Arrives : State → Type 0 where

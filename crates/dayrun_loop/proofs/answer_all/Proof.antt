@@ -1,14 +1,21 @@
 -- `dayrun_loop::answer_all` meets its contract: each turn is the step that comes next, and the measure is the number of turns that are left.
 -- Assumes nothing.
-use Prim.Native.Nat.{suc, _-_, _^_, _<_}
-use mathlib.Core.Path.{_≡_, sym, _∙_}
+use Prim.Native.Nat.{ℕ, suc, _-_, _^_, _<_}
+use mathlib.Core.Path.{_≡_, refl, sym, _∙_}
 use mathlib.Core.Bool.{true≢false, false≢true}
+use mathlib.Core.Logic.{_⊎_, inl, inr}
 use native.Mathlib.Omega.{arith}
 use borrow.Author.Needs.{needs}
 use Rattle.dayrun_loop.specs.Steps.{stateOf, Turns, more, Goes}
 use Rattle.dayrun_loop.proofs.Steps.{goes-first, turns-first, goes-on}
 use Rattle.dayrun_loop.proofs.answer_all.Statement.{statement}
 use Rattle.dayrun_loop.proofs.answer_all.Tie as tie
+
+-- the end is none of the first three steps
+end-is-none : (tag : ℕ) → tag ≡ 3 → (tag ≡ 0) ⊎ ((tag ≡ 1) ⊎ (tag ≡ 2)) → ⊥
+end-is-none tag t (inl e) = omega arith
+end-is-none tag t (inr (inl e)) = omega arith
+end-is-none tag t (inr (inr e)) = omega arith
 
 abbrev Inv-loop : tie.InvT-loop
 Inv-loop book₀ buffer₀ text₀ progress₀ turns₀ book buffer text progress turns = Goes (stateOf book buffer text progress) × ((turns < 2 ^ 64) × Turns (2 ^ 64 - 1 - turns) (stateOf book buffer text progress))
@@ -53,7 +60,7 @@ loop-again c =
     let most = l .inv .1 .0 in
     let same : suc (2 ^ 64 - 1 - l .turns) ≡ 2 ^ 64 - 1 - (l .turns - 1) = omega arith in (
       goes-on _ _ _ (l .inv .0) (sym (n .what-next .ensures)) (g .go-on .ensures),
-      (omega arith, rw (← same) (more _ _ _ _ (l .inv .1 .1) (sym (n .what-next .ensures)) (g .go-on .ensures))),
+      (omega arith, rw (← same) (more _ _ _ _ (l .inv .1 .1) (sym (n .what-next .ensures)) (λ e. end-is-none 3 refl (rw e at (g .before .before .before .before .match .keys2))) (g .go-on .ensures))),
     )
 
 returns-2 : tie.Need-returns-2 Inv-loop μ-loop
