@@ -15,7 +15,8 @@ use Rattle.stream.specs.declared.Next.the-variants.{Take, Write, Read, End}
 use Rattle.stream.specs.Records.{startBook}
 use Rattle.stream.specs.Running.{textSize, nextOf, unread, startProgress, AnswersNext, wroteProgress, Fronted, receivedProgress, State, nextIn, begins, answers, writes, reads}
 use Rattle.stream.proofs.Nexts.{answering, reading-on}
-use Rattle.dayrun_loop.specs.Steps.{ReadsMore, stateOf, Steps, taking, writing, reading, ending, Turns, none, Arrives, reached, failed, Goes}
+use Rattle.stream.proofs.Running.{writes-all}
+use Rattle.dayrun_loop.specs.Steps.{ReadsMore, stateOf, Steps, taking, writing, reading, ending, Turns, none, Arrives, reached, failed, Goes, Ends, all-written, cut-off, EndsWritten}
 
 -- ---- the functions that read
 
@@ -118,3 +119,12 @@ goes-on _ _ _ g t (reading st r buffer m) =
       arrives = rw (m .received) (arrives-read st (m .moved) (m .front) (m .more) buffer (g .arrives) t (m .fronted) (m .behind));
     }
 goes-on _ _ _ g t (ending st) = g
+
+-- ---- the end
+
+ends : (st : State) → Arrives st → nextIn st ≡ End → Ends st
+ends _ (reached input written st s) t = all-written input written st s (λ rest last. writes-all input written rest st s t last)
+ends _ (failed input written st s w) t = cut-off input written st s w
+
+pub ends-written : EndsWritten
+ends-written cells l = ends _ (l .goes .arrives) (l .ends refl)

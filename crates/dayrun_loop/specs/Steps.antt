@@ -3,7 +3,7 @@
 use Prim.Native.Nat.{ℕ, suc, _+_, _-_, _^_, _≤_, _<_}
 use mathlib.Core.Path.{_≡_}
 use mathlib.Core.Bool.{Bool, true, false}
-use mathlib.Core.List.{List, _++_}
+use mathlib.Core.List.{List, [], _++_}
 use lib.ListN.{length, take}
 use Rattle.cells.specs.View.{bookOf}
 use Rattle.dayrun_settled.specs.Settled.{longest}
@@ -11,6 +11,7 @@ use Rattle.stream.specs.declared.Progress.{Progress}
 use Rattle.stream.specs.declared.Next.{Next}
 use Rattle.stream.specs.declared.Next.the-variants.{Take, Write, Read, End}
 use Rattle.stream.specs.Records.{startBook}
+use Rattle.stream.specs.Input.{printed}
 use Rattle.stream.specs.Running.{textSize, Fits, startProgress, AnswersNext, wroteProgress, Fronted, receivedProgress, State, nextIn, Reaches}
 
 -- ---- one step
@@ -81,3 +82,15 @@ pub record Loops (ended : Bool) (cells : List ℕ) : Type 0 where
 pub record Answered (ended : Bool) : Type 0 where
   pub cells : List ℕ
   pub loops : Loops ended cells
+
+-- all lines of the input are written, with whatever stands behind what was read of it, or a write failed
+pub data Ends : State → Type 0 where
+  all-written : (input written : List ℕ) (st : State) → Reaches input written st
+      → ((rest : List ℕ) → (st .progress .ended ≡ true → rest ≡ []) → written ≡ printed startBook 1 (input ++ rest))
+      → Ends st
+  cut-off : (input written : List ℕ) (st : State) → Reaches input written st → nextIn st ≡ Write
+      → Ends (record { cells = st .cells; buffer = st .buffer; text = st .text; progress = wroteProgress (st .progress) false })
+
+-- so it is where the loop came to its end
+abbrev pub EndsWritten : Type 0
+EndsWritten = (cells : List ℕ) (l : Loops true cells) → Ends (stateOf cells (l .buffer) (l .text) (l .progress))
