@@ -74,7 +74,7 @@ fn finish(book: &mut Book, line: &[u8], count: usize, run: Run) -> Run {
     let mut next = counted(run, outcome);
     next.count = 0;
     next.opened = turn.opened;
-    next.printed = print(text, end);
+    next.printed = run.printed && print(text, end);
     next
 }
 

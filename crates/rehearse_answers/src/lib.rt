@@ -166,14 +166,25 @@ fn not_understood(end: usize, opened: bool) -> Turn {
     }
 }
 
-// The first digits of the number as it was written.
+// The position of the first byte from here on that is no 0, or the line's end.
+fn past_zeros(line: &[u8], from: usize) -> usize {
+    for at in from..line.len() {
+        if byte_at(line, at) != b'0' {
+            return at;
+        }
+    }
+    line.len()
+}
+
+// The first digits of the number as it was written, without zeros before it.
 fn put_large(text: &mut [u8], at: usize, line: &[u8], from: usize) -> usize {
-    let start = past_spaces(line, from);
+    let start = past_zeros(line, past_spaces(line, from));
     let end = rehearse_text::digits_from(line, start).end;
     let most = std::num::wrapping_add_usize(start, 20);
     let told = put(text, at, b" -> too large: ");
     if most < end {
-        return put_part(text, told, line, start, most);
+        let cut = put_part(text, told, line, start, most);
+        return put(text, cut, b"..");
     }
     put_part(text, told, line, start, end)
 }
@@ -187,7 +198,8 @@ fn put_unfit(text: &mut [u8], at: usize, line: &[u8], found: Found) -> usize {
 }
 
 fn is_passed_on(line: &[u8]) -> bool {
-    byte_at(line, 0) == b'#' || line.len() <= past_spaces(line, 0)
+    let first = past_spaces(line, 0);
+    byte_at(line, first) == b'#' || line.len() <= first
 }
 
 // ---- every line
@@ -204,8 +216,7 @@ fn matched(book: &mut Book, line: &[u8], opened: bool, text: &mut [u8]) -> Turn 
     answered(book, line, found, text, at)
 }
 
-// Without the line end.
-pub fn answer_line(book: &mut Book, line: &[u8], opened: bool, text: &mut [u8]) -> Turn {
+fn answer_bare(book: &mut Book, line: &[u8], opened: bool, text: &mut [u8]) -> Turn {
     if is_passed_on(line) {
         return Turn {
             end: put(text, 0, line),
@@ -214,6 +225,19 @@ pub fn answer_line(book: &mut Book, line: &[u8], opened: bool, text: &mut [u8]) 
         };
     }
     matched(book, line, opened, text)
+}
+
+// The byte order mark with which some editors begin a file of UTF-8.
+fn has_order_mark(line: &[u8]) -> bool {
+    byte_at(line, 0) == 0xEF && byte_at(line, 1) == 0xBB && byte_at(line, 2) == 0xBF
+}
+
+// Without the line end.
+pub fn answer_line(book: &mut Book, line: &[u8], opened: bool, text: &mut [u8]) -> Turn {
+    if 3 <= line.len() && has_order_mark(line) {
+        return answer_bare(book, &line[3..], opened, text);
+    }
+    answer_bare(book, line, opened, text)
 }
 
 pub fn answer_too_long(opened: bool, text: &mut [u8]) -> Turn {

@@ -124,10 +124,22 @@ fn past_letters(table: &[u8], place: usize) -> usize {
     table.len()
 }
 
-// The position past the next word, where it is the wanted one with a space before it, or else `at`.
+// A word begins after a space, a comma or a colon, and at the line's beginning.
+fn may_begin(line: &[u8], at: usize, from: usize) -> bool {
+    if from != at {
+        return true;
+    }
+    if at == 0 {
+        return true;
+    }
+    let before = byte_at(line, at - 1);
+    before == b',' || before == b':'
+}
+
+// The position past the next word, where it is the wanted one, or else `at`.
 fn past_next(table: &[u8], place: usize, line: &[u8], at: usize) -> usize {
     let from = past_spaces(line, at);
-    if from == at && 0 < at {
+    if !may_begin(line, at, from) {
         return at;
     }
     let end = past_word(table, place, line, from);
@@ -170,7 +182,7 @@ fn word(table: &[u8], line: &[u8], found: Found) -> Found {
 fn next_number(line: &[u8], at: usize) -> Digits {
     let none = Digits { value: 0, end: at };
     let from = past_spaces(line, at);
-    if from == at {
+    if !may_begin(line, at, from) {
         return none;
     }
     let digits = digits_from(line, from);

@@ -33,7 +33,8 @@ fn put_refusal(text: &mut [u8], at: usize, numbers: Numbers) -> usize {
         12 => put(text, at, b"cycle"),
         13 => put(text, at, b"full"),
         14 => put(text, at, b"below"),
-        _ => put_short(text, at, numbers),
+        15 => put_short(text, at, numbers),
+        _ => put(text, at, b"refused"),
     }
 }
 
@@ -67,13 +68,14 @@ fn put_above(text: &mut [u8], at: usize, marks: u64) -> usize {
     }
 }
 
-// The hours in which nominations are above the right.
+// The hours of the session in which nominations are above the right.
 fn put_nominated(text: &mut [u8], at: usize, marks: u64) -> usize {
     if marks == 0 {
         return put(text, at, b"granted");
     }
-    let end = put_above(text, at, marks);
-    put_hours(text, end, marks)
+    let above = put_above(text, at, marks);
+    let end = put_hours(text, above, marks);
+    put(text, end, b" of the session")
 }
 
 fn put_matched(text: &mut [u8], at: usize, numbers: Numbers) -> usize {
