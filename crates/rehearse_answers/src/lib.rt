@@ -9,6 +9,7 @@ use rehearse_text::and;
 use rehearse_text::byte_at;
 use rehearse_text::none;
 use rehearse_text::number_at;
+use rehearse_text::past_all;
 use rehearse_text::past_spaces;
 use rehearse_text::put;
 use rehearse_text::put_number;
@@ -166,19 +167,9 @@ fn not_understood(end: usize, opened: bool) -> Turn {
     }
 }
 
-// The position of the first byte from here on that is no 0, or the line's end.
-fn past_zeros(line: &[u8], from: usize) -> usize {
-    for at in from..line.len() {
-        if byte_at(line, at) != b'0' {
-            return at;
-        }
-    }
-    line.len()
-}
-
 // The first digits of the number as it was written, without zeros before it.
 fn put_large(text: &mut [u8], at: usize, line: &[u8], from: usize) -> usize {
-    let start = past_zeros(line, past_spaces(line, from));
+    let start = past_all(line, past_spaces(line, from), b'0');
     let end = rehearse_text::digits_from(line, start).end;
     let most = std::num::wrapping_add_usize(start, 20);
     let told = put(text, at, b" -> too large: ");

@@ -7,14 +7,18 @@ pub fn byte_at(line: &[u8], at: usize) -> u8 {
     if at < line.len() { line[at] } else { b' ' }
 }
 
-// The position of the first byte from here on that is no space, or the line's end.
-pub fn past_spaces(line: &[u8], from: usize) -> usize {
+// The position of the first byte from here on that is another one, or the line's end.
+pub fn past_all(line: &[u8], from: usize, byte: u8) -> usize {
     for at in from..line.len() {
-        if byte_at(line, at) != b' ' {
+        if byte_at(line, at) != byte {
             return at;
         }
     }
     line.len()
+}
+
+pub fn past_spaces(line: &[u8], from: usize) -> usize {
+    past_all(line, from, b' ')
 }
 
 // ---- numbers

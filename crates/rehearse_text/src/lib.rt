@@ -8,6 +8,7 @@ pub use input::digits_from;
 pub use input::fits;
 pub use input::is_break;
 pub use input::is_letter;
+pub use input::past_all;
 pub use input::past_spaces;
 pub use input::past_word;
 pub use output::fill;

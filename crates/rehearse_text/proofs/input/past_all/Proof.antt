@@ -1,18 +1,18 @@
--- `rehearse_text::input::past_spaces` is safe and ends.
+-- `rehearse_text::input::past_all` is safe and ends.
 -- Assumes nothing.
 use borrow.Author.Needs.{needs}
 use Prim.Native.Nat.{_≤_, _-_}
-use Rattle.rehearse_text.proofs.input.past_spaces.Statement.{statement}
-use Rattle.rehearse_text.proofs.input.past_spaces.Tie as tie
+use Rattle.rehearse_text.proofs.input.past_all.Statement.{statement}
+use Rattle.rehearse_text.proofs.input.past_all.Tie as tie
 
 abbrev Inv-loop : tie.InvT-loop
-Inv-loop line from at₀ at-end at = from ≤ at
+Inv-loop line from byte at₀ at-end at = from ≤ at
 
 abbrev μ-loop : tie.MeasureT-loop
-μ-loop line from at₀ at-end at = at-end - at
+μ-loop line from byte at₀ at-end at = at-end - at
 
-pub past-spaces-spec : {M : Type 1} → statement M
-past-spaces-spec =
+pub past-all-spec : {M : Type 1} → statement M
+past-all-spec =
     tie.close
     (tie.spec
     Inv-loop
