@@ -20,11 +20,11 @@ use Rattle.rules.proofs.Bools.{or-left, or-true}
 use Rattle.rules.proofs.Decisions.{is-granted, fails}
 use Rattle.cells.specs.Layout.{PROFILES}
 use Rattle.cells.specs.View.{Cells, counted, dayHoursIn, directionAt, bookOf}
-use Rattle.cells.specs.Bids.{grantedHours}
-use Rattle.cells.specs.Stores.{clocked}
+use Rattle.stores.specs.Bids.{grantedHours}
+use Rattle.stores.specs.Stores.{clocked}
 use Rattle.cells.specs.Updates.{withGranted, withRights, withClock}
-use Rattle.cells.proofs.Stores.{clock-set}
-use Rattle.cells.proofs.Grants.{bid-fitting}
+use Rattle.stores.proofs.Stores.{clock-set}
+use Rattle.stores.proofs.Grants.{bid-fitting}
 use Rattle.cells.proofs.Views.{hours-within}
 use Rattle.capacity.specs.Search.{Hours}
 use Rattle.rules.proofs.Above.{zeros-from}

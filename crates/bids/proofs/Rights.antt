@@ -20,11 +20,11 @@ use Rattle.rules.specs.declared.Answer.{Answer}
 use Rattle.cells.specs.Layout.{CELLS, RIGHTS}
 use Rattle.cells.specs.Loops.{rows}
 use Rattle.cells.specs.View.{cell, cellFrom, part, counted, rightAt, rightsIn, bookOf}
-use Rattle.cells.specs.Bids.{addedFive}
+use Rattle.stores.specs.Bids.{addedFive}
 use Rattle.cells.specs.Updates.{withRights}
-use Rattle.cells.proofs.Firsts.{placeOf, place-le, some-is, changed-there, changed-new, found-is, first-at, first-none, right-from, right-taken, raised, added-right}
-use Rattle.cells.proofs.Tables.{right-more, length-row}
-use Rattle.cells.proofs.Raised.{right-raised, length-five}
+use Rattle.stores.proofs.Firsts.{placeOf, place-le, some-is, changed-there, changed-new, found-is, first-at, first-none, right-from, right-taken, raised, added-right}
+use Rattle.stores.proofs.Tables.{right-more, length-row}
+use Rattle.stores.proofs.Raised.{right-raised, length-five}
 use Rattle.cells.proofs.Views.{right-count, right-at}
 use Rattle.cells.specs.declared.Found.{Found}
 use Rattle.cells.specs.declared.Found.the-variants.{At, Nothing}

@@ -19,7 +19,7 @@ use Rattle.cells.specs.Search.{firstRow}
 use Rattle.cells.specs.declared.Found.{Found}
 use Rattle.cells.specs.declared.Found.the-variants.{At, Nothing}
 use Rattle.cells.specs.View.{counted, directionAt, rightAt, bookOf, Cells}
-use Rattle.cells.specs.Stores.{withRow}
+use Rattle.stores.specs.Stores.{withRow}
 use Rattle.cells.specs.Updates.{withRights}
 use Rattle.capacity.specs.Search.{found}
 use Rattle.capacity.specs.declared.Search.{Search}

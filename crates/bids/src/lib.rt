@@ -213,7 +213,7 @@ fn open_right(book: &mut Book, holder: u8, direction: u8, session: Session, mw: 
         mw[3] as u32,
         mw[4] as u32,
     ];
-    cells::add_row(book, cells::RIGHTS, count, &row);
+    stores::add_row(book, cells::RIGHTS, count, &row);
     count
 }
 
@@ -276,7 +276,7 @@ fn place_bid(
     let count = day::hours_in(hours, model, session);
     capacity::grant_hours(book, direction, first, count, mw);
     let number = book_right(book, entry, model, party, direction, session, mw);
-    cells::set_clock(book, time);
+    stores::set_clock(book, time);
     number
 }
 

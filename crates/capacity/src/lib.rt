@@ -7,7 +7,7 @@ ghost use Rattle.rules.specs.Basics.{bit, anyAbove};
 ghost use Rattle.rules.specs.Book.{leftAt, directionLimit, profileLimit};
 ghost use Rattle.cells.specs.Layout.{CELLS, PROFILES};
 ghost use Rattle.cells.specs.View.{InHour, cell, bookOf, counted};
-ghost use Rattle.cells.specs.Bids.{addedCell, grantedProfile, grantedHour, grantedHours, addedFive};
+ghost use Rattle.stores.specs.Bids.{addedCell, grantedProfile, grantedHour, grantedHours, addedFive};
 ghost use Rattle.capacity.specs.Search.{Hours, profileShortIn, shortageIn};
 use cells::Book;
 use rules::CapacityOf;

@@ -1,11 +1,4 @@
 pub mod Rows
 pub mod Turns
 pub mod Regions
-pub mod Stores
-pub mod Repeats
-pub mod Grants
 pub mod Views
-pub mod Tables
-pub mod Firsts
-pub mod Raised
-pub mod Pairs

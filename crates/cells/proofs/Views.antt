@@ -13,10 +13,18 @@ use Rattle.rules.specs.Sessions.{sessionThere, hoursIn}
 use Rattle.rules.specs.Book.{Direction, Party, Pair, place, direction, party, right, leftAt, modelOf, directionLimit, pairLimit, partyLimit, profileLimit, rightLimit}
 use Rattle.rules.specs.Refusals.{directionUnknown, sessionUnknown, hourUnknown}
 use Rattle.cells.specs.Layout.{DIRECTIONS, PROFILES, PARTIES, OFFERED, GRANTED, MATCHED, RIGHTS, PAIRS}
-use Rattle.cells.specs.View.{InHour, cell, part, counted, dayHoursIn, directionAt, directionsIn, profilesIn, partyAt, partiesIn, offeredIn, grantedIn, matchedIn, rightAt, rightsIn, pairAt, pairsIn, bookOf}
+use Rattle.cells.specs.View.{InHour, cell, cellFrom, part, counted, dayHoursIn, directionAt, directionsIn, profilesIn, partyAt, partiesIn, offeredIn, grantedIn, matchedIn, rightAt, rightsIn, pairAt, pairsIn, bookOf}
 use Rattle.rules.proofs.Bools.{or-left, or-right}
 use Rattle.cells.proofs.Rows.{rows-length, rows-at}
-use Rattle.cells.proofs.Stores.{part-at, part-length}
+
+pub part-length : (b : List ℕ) (at n : ℕ) → length (part b at n) ≡ n
+unfolding part
+part-length b at n = rows-length (cellFrom b at) n 0
+
+-- a cell of a part
+pub part-at : (b : List ℕ) (at n i : ℕ) → i < n → getD (part b at n) i 0 ≡ cell b (at + i)
+unfolding part cellFrom
+part-at b at n i l = rows-at (cellFrom b at) n 0 i 0 l ∙ rw (zero-add i)
 
 pub direction-count : (b : List ℕ) → length (bookOf b .directions) ≡ counted b DIRECTIONS directionLimit
 unfolding bookOf directionsIn

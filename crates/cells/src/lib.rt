@@ -1,27 +1,25 @@
-// The cells of a day book: one lent array with a table at each fixed place. Nothing is assumed of what the cells hold.
+// The cells of a day book: one lent array with a table at each fixed place, and the reads of single cells. Nothing is assumed of what the cells hold.
 ghost use mathlib.Core.Path.{_≡_};
-ghost use Prim.Native.Nat.{_+_, _*_, _-_, _<_, _≤_};
-ghost use lib.ListN.{length, set, getD};
-ghost use lib.Seq.{sets};
+ghost use Prim.Native.Nat.{_+_, _<_};
+ghost use lib.ListN.{getD};
 ghost use Rattle.rules.specs.Book.{place, flag, leftAt, directionLimit, rightLimit};
 ghost use Rattle.rules.specs.Refusals.{isMatched};
-ghost use Rattle.cells.specs.Layout.{CELLS, OFFERED, GRANTED, MATCHED};
+ghost use Rattle.cells.specs.Layout.{CELLS, OFFERED, GRANTED};
 ghost use Rattle.cells.specs.View.{InHour, Places, Sound, Cells, bookOf, counted, dayHoursIn, directionAt, startedIn, weekdayIn, clockIn, rightAt};
-ghost use Rattle.cells.specs.Stores.{clocked, emptied, withRow};
 use rules::Hour;
 use rules::Session;
 
 // The count of hours of the day.
-const HOURS: usize = 0;
+pub const HOURS: usize = 0;
 
 // Monday 1 to Sunday 7.
-const WEEKDAY: usize = 1;
+pub const WEEKDAY: usize = 1;
 
 // The time of the latest granted timed call.
-const CLOCK: usize = 2;
+pub const CLOCK: usize = 2;
 
 // Not 0 after a granted timed call.
-const STARTED: usize = 3;
+pub const STARTED: usize = 3;
 
 // A count, and 24 rows of 3: out operator, in operator, model.
 pub const DIRECTIONS: usize = 4;
@@ -39,7 +37,7 @@ pub const OFFERED_MW: usize = 1175;
 pub const GRANTED_MW: usize = 1975;
 
 // The matched sessions: 24 rows of 25 sessions, 1 where the session of the direction was matched.
-const MATCHED_SESSIONS: usize = 2775;
+pub const MATCHED_SESSIONS: usize = 2775;
 
 // A count, and 512 rows of 8: holder, direction, session, five MW.
 pub const RIGHTS: usize = 3375;
@@ -89,7 +87,6 @@ pub fn cells_in(book: &Book)
     sound(book);
 }
 
-// ---- reads
 pub fn hours(book: &Book) -> u8
     ensures { λ r. ⌜ r ≡ dayHoursIn (now (book .entry)) ⌝ }
 {
@@ -207,7 +204,7 @@ pub fn left_at(book: &Book, row: u8, hour: Hour) -> u32
 }
 
 // Where the flag of a direction's session stands among the matched sessions.
-fn flag_of(direction: u8, session: Session) -> usize
+pub fn flag_of(direction: u8, session: Session) -> usize
     ensures { λ r. ⌜ r ≡ flag direction (session .0) ⌝ }
 {
     let first = direction as usize * 25;
@@ -224,57 +221,4 @@ pub fn is_matched(book: &Book, direction: u8, session: Session) -> bool
 {
     let at = flag_of(direction, session);
     at < 600 && book[MATCHED_SESSIONS + at] == 1
-}
-
-// ---- stores
-pub fn set_offered(book: &mut Book, row: u8, hour: Hour, mw: u16)
-    requires { ⌜ InHour row (hour .0) ⌝ }
-    ensures { λ r. ⌜ now (book .exit) ≡ set (now (book .entry)) (OFFERED + place row (hour .0)) mw ⌝ }
-{
-    book[OFFERED_MW + place_of(row, hour)] = mw as u32;
-}
-
-// The session of a direction is matched.
-pub fn set_matched(book: &mut Book, direction: u8, session: Session)
-    requires { ⌜ (direction < directionLimit) × ((1 ≤ session .0) × (session .0 ≤ 25)) ⌝ }
-    ensures { λ r. ⌜ now (book .exit) ≡ set (now (book .entry)) (MATCHED + flag direction (session .0)) 1 ⌝ }
-{
-    book[MATCHED_SESSIONS + flag_of(direction, session)] = 1;
-}
-
-// The time of a granted timed call.
-pub fn set_clock(book: &mut Book, time: u32)
-    ensures { λ r. ⌜ now (book .exit) ≡ clocked time (now (book .entry)) ⌝ }
-{
-    book[CLOCK] = time;
-    book[STARTED] = 1;
-}
-
-// An empty book of a day.
-pub fn clear(book: &mut Book, hours: u8, weekday: u8)
-    ensures { λ r. ⌜ now (book .exit) ≡ emptied hours weekday ⌝ }
-{
-    *book = [0u32; CELLS];
-    book[HOURS] = hours as u32;
-    book[WEEKDAY] = weekday as u32;
-}
-
-// Cells from `at` on.
-pub fn write_cells(book: &mut Book, at: usize, row: &[u32])
-    requires { ⌜ at + length (now row) ≤ CELLS ⌝ }
-    ensures { λ r. ⌜ now (book .exit) ≡ sets (now (book .entry)) at (now (row .entry)) ⌝ }
-{
-    for k in 0..row.len() {
-        book[at + k] = row[k];
-    }
-}
-
-// A row more in a table, after its first `count` rows, which are as long.
-pub fn add_row(book: &mut Book, table: usize, count: u32, row: &[u32])
-    requires { ⌜ ((1 ≤ length (now row)) × (length (now row) ≤ 17)) × ((count < CELLS) × (table + 1 + (count * length (now row) + length (now row)) ≤ CELLS)) ⌝ }
-    ensures { λ r. ⌜ now (book .exit) ≡ withRow table count (now (row .entry)) (now (book .entry)) ⌝ }
-{
-    let at = table + 1 + count as usize * row.len();
-    write_cells(book, at, row);
-    book[table] = count + 1;
 }

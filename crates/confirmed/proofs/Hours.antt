@@ -10,7 +10,7 @@ use borrow.Author.Tests.{lt-ltb, le-ltb}
 use Rattle.rules.specs.Nominations.{confirmedOf}
 use Rattle.cells.specs.Layout.{RIGHTS, PAIRS}
 use Rattle.cells.specs.View.{cell, rightAt, pairAt}
-use Rattle.cells.proofs.Stores.{part-at}
+use Rattle.cells.proofs.Views.{part-at}
 use Rattle.confirmed.specs.Work.{lowerIn, hourOf}
 
 -- ---- one value

@@ -16,7 +16,7 @@ use Rattle.rules.specs.Nominations.{sideOf, sideTotal, aboveRight, marks}
 use Rattle.cells.specs.Layout.{RIGHTS, PAIRS}
 use Rattle.cells.specs.Loops.{each, rows}
 use Rattle.cells.specs.View.{cell, counted, rightAt, pairAt, pairsIn, bookOf}
-use Rattle.cells.proofs.Stores.{part-at}
+use Rattle.cells.proofs.Views.{part-at}
 use Rattle.cells.proofs.Turns.{each-start, each-next, each-done}
 use Rattle.cells.proofs.Views.{right-at}
 use Rattle.marks.specs.Totals.{shareOf, addPair, Bounded, SumsWith, Summed}

@@ -19,7 +19,7 @@ use Rattle.rules.proofs.Decisions.{is-granted, fails}
 use Rattle.cells.specs.Layout.{MATCHED}
 use Rattle.cells.specs.View.{bookOf}
 use Rattle.cells.specs.Updates.{withMatched, withClock}
-use Rattle.cells.proofs.Stores.{matched-set, clock-set}
+use Rattle.stores.proofs.Stores.{matched-set, clock-set}
 use Rattle.answers.specs.Promises.{Answers}
 use Rattle.answers.proofs.Laws.{granted}
 use Rattle.matching.specs.Work.{Placed}

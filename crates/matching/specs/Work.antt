@@ -10,7 +10,7 @@ use Rattle.rules.specs.Book.{Right, flag}
 use Rattle.rules.specs.Nominations.{countRights}
 use Rattle.cells.specs.Layout.{MATCHED}
 use Rattle.cells.specs.View.{Cells, rightAt, bookOf}
-use Rattle.cells.specs.Stores.{clocked}
+use Rattle.stores.specs.Stores.{clocked}
 
 -- a right of the direction and session
 unfoldable pub isOf : ℕ → ℕ → Right → Bool

@@ -111,8 +111,8 @@ fn place_match(book: &mut Book, time: u32, direction: u8, session: Session) -> u
 {
     cells::cells_in(book);
     let count = count_rights(book, direction, session);
-    cells::set_matched(book, direction, session);
-    cells::set_clock(book, time);
+    stores::set_matched(book, direction, session);
+    stores::set_clock(book, time);
     count
 }
 

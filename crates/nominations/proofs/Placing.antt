@@ -23,12 +23,12 @@ use Rattle.rules.proofs.Bools.{or-left, or-right, or-true}
 use Rattle.rules.proofs.Decisions.{is-granted, fails}
 use Rattle.cells.specs.Layout.{CELLS, RIGHTS, PAIRS}
 use Rattle.cells.specs.View.{counted, pairAt, bookOf}
-use Rattle.cells.specs.Stores.{clocked}
+use Rattle.stores.specs.Stores.{clocked}
 use Rattle.cells.specs.Updates.{withPairs, withClock}
-use Rattle.cells.proofs.Firsts.{changed-there, changed-new}
-use Rattle.cells.proofs.Tables.{length-row}
-use Rattle.cells.proofs.Stores.{five-mw, clock-set}
-use Rattle.cells.proofs.Pairs.{with-pair, pair-more, side-replaced}
+use Rattle.stores.proofs.Firsts.{changed-there, changed-new}
+use Rattle.stores.proofs.Tables.{length-row}
+use Rattle.stores.proofs.Stores.{five-mw, clock-set}
+use Rattle.stores.proofs.Pairs.{with-pair, pair-more, side-replaced}
 use Rattle.cells.proofs.Views.{right-count, pair-count, pair-at, has-room}
 use Rattle.cells.specs.declared.Found.{Found}
 use Rattle.cells.specs.declared.Found.the-variants.{At, Nothing}

@@ -15,7 +15,7 @@ use Rattle.rules.specs.Effects.{effect}
 use Rattle.rules.specs.Details.{detail}
 use Rattle.cells.specs.Layout.{CELLS, PAIRS}
 use Rattle.cells.specs.View.{counted, pairAt, bookOf, Cells}
-use Rattle.cells.specs.Stores.{withRow}
+use Rattle.stores.specs.Stores.{withRow}
 use Rattle.cells.specs.Updates.{withPairs}
 use Rattle.cells.specs.declared.Found.{Found}
 use Rattle.cells.specs.declared.Found.the-variants.{At, Nothing}

@@ -219,7 +219,7 @@ fn open_pair(book: &mut Book, right: u32, out: u32, into: u32) -> u32
     cells::cells_in(book);
     let count = cells::count_in(book, cells::PAIRS, cells::PAIR_LIMIT);
     let row = [right, out, into, 0, 0, 0, 0, 0, 0, 0, 0, 0, 0];
-    cells::add_row(book, cells::PAIRS, count, &row);
+    stores::add_row(book, cells::PAIRS, count, &row);
     count
 }
 
@@ -248,7 +248,7 @@ fn write_side(book: &mut Book, pair: u32, side: u8, mw: [u16; 5])
         mw[4] as u32,
     ];
     let at = pairs::side_at(pair, side);
-    cells::write_cells(book, at, &five);
+    stores::write_cells(book, at, &five);
 }
 
 // The stores of a granted nomination: its marks, after it took its place.
@@ -269,7 +269,7 @@ fn place_nomination(
     let into = in_party(sender, other, side);
     let pair = take_pair(book, right as u32, out, into, found);
     write_side(book, pair, side, mw);
-    cells::set_clock(book, time);
+    stores::set_clock(book, time);
     marks::marks(book, right, side)
 }
 

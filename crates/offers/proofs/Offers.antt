@@ -21,7 +21,7 @@ use Rattle.rules.proofs.Decisions.{is-granted, fails}
 use Rattle.cells.specs.Layout.{OFFERED}
 use Rattle.cells.specs.View.{InHour, bookOf}
 use Rattle.cells.specs.Updates.{withOffered, withClock}
-use Rattle.cells.proofs.Stores.{offered-set, clock-set}
+use Rattle.stores.proofs.Stores.{offered-set, clock-set}
 use Rattle.cells.proofs.Views.{Known, KnownProfile, known, known-profile, granted-place}
 use Rattle.answers.specs.Promises.{Answers, saidLeft}
 use Rattle.answers.proofs.Laws.{Left, granted}

@@ -8,7 +8,7 @@ use Rattle.rules.specs.Book.{place, leftAt}
 use Rattle.rules.specs.declared.Answer.the-variants.{Granted}
 use Rattle.cells.specs.Layout.{OFFERED, GRANTED}
 use Rattle.cells.specs.View.{Cells, cell, bookOf}
-use Rattle.cells.specs.Stores.{clocked}
+use Rattle.stores.specs.Stores.{clocked}
 use Rattle.answers.specs.declared.LeftRead.{LeftRead}
 
 -- the offer of a row in an hour is stored, and the clock; what is then left

@@ -108,8 +108,8 @@ fn place_offer(book: &mut Book, time: u32, row: u8, hour: Hour, mw: u16) -> u32
 {
     cells::cells_in(book);
     let granted = cells::granted_at(book, row, hour);
-    cells::set_offered(book, row, hour, mw);
-    cells::set_clock(book, time);
+    stores::set_offered(book, row, hour, mw);
+    stores::set_clock(book, time);
     rules::less(mw as u32, granted)
 }
 

@@ -13,9 +13,9 @@ use Rattle.rules.specs.Book.{pairLimit}
 use Rattle.rules.specs.Nominations.{isPairOf, pairTaken, pairOf, emptyPair}
 use Rattle.cells.specs.Layout.{PAIRS}
 use Rattle.cells.specs.View.{cell, counted, pairAt, pairsIn, bookOf}
-use Rattle.cells.proofs.Firsts.{placeOf, some-is, first-at, first-none}
+use Rattle.stores.proofs.Firsts.{placeOf, some-is, first-at, first-none}
 use Rattle.cells.proofs.Views.{pair-count, pair-at}
-use Rattle.cells.proofs.Pairs.{pair-taken, pair-from}
+use Rattle.stores.proofs.Pairs.{pair-taken, pair-from}
 use Rattle.cells.specs.declared.Found.the-variants.{At, Nothing}
 use Rattle.pairs.specs.Search.{standingPair}
 

@@ -19,9 +19,9 @@ use Rattle.rules.specs.declared.Answer.the-variants.{Granted}
 use Rattle.rules.proofs.Decisions.{is-granted, fails}
 use Rattle.cells.specs.Layout.{CELLS, DIRECTIONS, PROFILES, PARTIES}
 use Rattle.cells.specs.View.{bookOf, counted}
-use Rattle.cells.specs.Stores.{withRow}
+use Rattle.stores.specs.Stores.{withRow}
 use Rattle.cells.specs.Updates.{withDirections, withProfiles, withParties}
-use Rattle.cells.proofs.Tables.{direction-more, profile-more, party-more}
+use Rattle.stores.proofs.Tables.{direction-more, profile-more, party-more}
 use Rattle.cells.proofs.Views.{direction-count, profile-count, party-count}
 use Rattle.answers.specs.Promises.{Judged, Answers}
 use Rattle.answers.specs.declared.Verdict.{Verdict}

@@ -11,8 +11,8 @@ use Rattle.rules.specs.Refusals.{order, firstOf}
 use Rattle.rules.specs.Opening.{dayRefused, openingRefuses, dayHours, dayWeekday, opening}
 use Rattle.rules.specs.declared.Answer.the-variants.{Granted, Day}
 use Rattle.rules.proofs.Bools.{or-left, or-right}
-use Rattle.cells.specs.Stores.{emptied}
-use Rattle.cells.proofs.Stores.{emptied-book}
+use Rattle.stores.specs.Stores.{emptied}
+use Rattle.stores.proofs.Stores.{emptied-book}
 use Rattle.answers.specs.Promises.{Opens}
 
 hours-stored : (n : ℕ) → 23 ≤ n → n ≤ 25 → cond {A = ℕ} (eqb n 23) 23 (cond (eqb n 25) 25 24) ≡ n

@@ -8,7 +8,7 @@ use lib.Dec.{eqb}
 use Rattle.rules.specs.Basics.{same}
 use Rattle.rules.specs.Book.{Direction, Party}
 use Rattle.cells.specs.View.{Cells, counted}
-use Rattle.cells.specs.Stores.{withRow}
+use Rattle.stores.specs.Stores.{withRow}
 
 -- a row more in a table that has room
 pub record Entered (b : List ℕ) (table limit : ℕ) (row : List ℕ) (n : ℕ) (b′ : List ℕ) : Type 0 where

@@ -43,10 +43,10 @@ pub fn open_day(book: &mut Book, hours: u8, weekday: u8) -> Answer
     ensures { λ r. ⌜ Opens hours weekday r (now (book .exit)) ⌝ }
 {
     if day_refused(hours, weekday) {
-        cells::clear(book, 24, 1);
+        stores::clear(book, 24, 1);
         Answer::Day
     } else {
-        cells::clear(book, hours, weekday);
+        stores::clear(book, hours, weekday);
         Answer::Granted(0)
     }
 }
@@ -65,7 +65,7 @@ fn place_row(book: &mut Book, table: usize, limit: u32, row: &[u32]) -> u32
 {
     cells::cells_in(book);
     let count = cells::count_in(book, table, limit);
-    cells::add_row(book, table, count, row);
+    stores::add_row(book, table, count, row);
     count
 }
 

@@ -7,8 +7,8 @@ use mathlib.Core.List.{List, _∷_}
 use lib.ListN.{length}
 use Rattle.cells.specs.Layout.{RIGHTS}
 use mathlib.Core.Path.{ap, _∙_}
-use Rattle.cells.specs.Stores.{withRow}
-use Rattle.cells.proofs.Stores.{five-mw}
+use Rattle.stores.specs.Stores.{withRow}
+use Rattle.stores.proofs.Stores.{five-mw}
 use borrow.Author.Needs.{needs}
 use Rattle.bids.proofs.open_right.Statement.{statement}
 use Rattle.bids.proofs.open_right.Tie as tie

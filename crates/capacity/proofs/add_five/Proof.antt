@@ -4,7 +4,7 @@ use mathlib.Core.Path.{_≡_, refl, sym, _∙_}
 use Prim.Native.Nat.{_≤_, _+_, _-_}
 use borrow.Author.Needs.{needs}
 use Rattle.cells.specs.Loops.{repeated}
-use Rattle.cells.specs.Bids.{addedFive, addedNext}
+use Rattle.stores.specs.Bids.{addedFive, addedNext}
 use Rattle.cells.proofs.Turns.{repeated-next, repeated-done}
 use Rattle.capacity.proofs.add_five.Statement.{statement}
 use Rattle.capacity.proofs.add_five.Tie as tie

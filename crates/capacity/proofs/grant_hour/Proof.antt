@@ -4,7 +4,7 @@ use mathlib.Core.Path.{_≡_, sym, _∙_}
 use Prim.Native.Nat.{_≤_, _+_, _-_}
 use borrow.Author.Needs.{needs}
 use Rattle.cells.specs.Loops.{repeated}
-use Rattle.cells.specs.Bids.{grantedHour, grantedProfile}
+use Rattle.stores.specs.Bids.{grantedHour, grantedProfile}
 use Rattle.cells.proofs.Turns.{repeated-start, repeated-next, repeated-done}
 use Rattle.capacity.proofs.grant_hour.Statement.{statement}
 use Rattle.capacity.proofs.grant_hour.Tie as tie

@@ -5,7 +5,7 @@ use Prim.Native.Nat.{_≤_, _+_, _-_}
 use borrow.Author.Needs.{needs}
 use Rattle.rules.specs.Book.{profileLimit}
 use Rattle.cells.specs.Loops.{repeated}
-use Rattle.cells.specs.Bids.{grantedHours, grantedNext}
+use Rattle.stores.specs.Bids.{grantedHours, grantedNext}
 use Rattle.cells.proofs.Turns.{repeated-start, repeated-next, repeated-done}
 use Rattle.capacity.proofs.grant_hours.Statement.{statement}
 use Rattle.capacity.proofs.grant_hours.Tie as tie

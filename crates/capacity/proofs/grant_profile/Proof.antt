@@ -2,7 +2,7 @@
 -- Assumes nothing.
 use Rattle.cells.proofs.Turns.{told-true, told-false}
 use mathlib.Core.Path.{_≡_, sym, _∙_}
-use Rattle.cells.specs.Bids.{grantedProfile}
+use Rattle.stores.specs.Bids.{grantedProfile}
 use borrow.Author.Needs.{needs}
 use Rattle.capacity.proofs.grant_profile.Statement.{statement}
 use Rattle.capacity.proofs.grant_profile.Tie as tie

@@ -1,8 +1,8 @@
 -- `cells::set_matched` meets its contract.
 -- Assumes nothing.
 use borrow.Author.Needs.{needs}
-use Rattle.cells.proofs.set_matched.Statement.{statement}
-use Rattle.cells.proofs.set_matched.Tie as tie
+use Rattle.stores.proofs.set_matched.Statement.{statement}
+use Rattle.stores.proofs.set_matched.Tie as tie
 
 returns : tie.Need-returns
 returns c = rw (c .flag-of .ensures)

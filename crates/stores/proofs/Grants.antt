@@ -16,15 +16,15 @@ use Rattle.rules.specs.Basics.{bit, mwAt}
 use Rattle.rules.specs.Book.{place, leftAt, holds, directionLimit, profileLimit}
 use Rattle.rules.specs.Bids.{share, withBid, isShort, shortage}
 use Rattle.rules.proofs.Shortages.{bid-fits}
 use Rattle.cells.specs.Layout.{CELLS, PROFILES, OFFERED, GRANTED, MATCHED}
 use Rattle.cells.specs.Loops.{repeated}
 use Rattle.cells.specs.View.{Cells, cell, part, counted, profilesIn, grantedIn, bookOf}
-use Rattle.cells.specs.Bids.{addedCell, grantedProfile, grantedHour, grantedNext, grantedHours, withBidMw}
+use Rattle.stores.specs.Bids.{addedCell, grantedProfile, grantedHour, grantedNext, grantedHours, withBidMw}
 use Rattle.cells.proofs.Regions.{only-granted}
 use Rattle.cells.specs.Updates.{withGranted}
-use Rattle.cells.proofs.Stores.{part-at, part-length}
+use Rattle.cells.proofs.Views.{part-at, part-length}
 use Rattle.cells.proofs.Views.{left-at}
-use Rattle.cells.proofs.Repeats.{repeated-same, repeated-once, repeated-keeps}
+use Rattle.stores.proofs.Repeats.{repeated-same, repeated-once, repeated-keeps}
 
 -- what the stores keep: the maps, the count of cells, their range
 record Keeps (maps : List ℕ) (n : ℕ) (y : List ℕ) : Type 0 where

@@ -9,15 +9,15 @@ use lib.ListN.{getD, set, length, length-set}
 use lib.Seq.{getD-set-same, getD-set-other, ext-getD}
 use Rattle.rules.specs.Book.{Right, rightLimit}
 use Rattle.rules.specs.Bids.{cellValues, wrapAdded}
 use Rattle.cells.specs.Layout.{CELLS, RIGHTS}
 use Rattle.cells.specs.View.{cell, part, counted, rightAt, rightsIn, bookOf}
-use Rattle.cells.specs.Bids.{addedNext, addedFive}
-use Rattle.cells.proofs.Repeats.{repeated-same, repeated-once}
+use Rattle.stores.specs.Bids.{addedNext, addedFive}
+use Rattle.stores.proofs.Repeats.{repeated-same, repeated-once}
 use Rattle.cells.proofs.Regions.{only-rights}
 use Rattle.cells.specs.Updates.{withRights}
-use Rattle.cells.proofs.Stores.{part-at, part-length}
-use Rattle.cells.proofs.Tables.{right-own, right-same}
-use Rattle.cells.proofs.Firsts.{raised, table-set}
+use Rattle.cells.proofs.Views.{part-at, part-length}
+use Rattle.stores.proofs.Tables.{right-own, right-same}
+use Rattle.stores.proofs.Firsts.{raised, table-set}
 
 -- ---- the rule's sum
 

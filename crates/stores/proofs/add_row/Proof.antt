@@ -1,9 +1,9 @@
 -- `cells::add_row` meets its contract.
 -- Assumes nothing.
 use borrow.Author.Needs.{needs}
-use Rattle.cells.specs.Stores.{withRow}
-use Rattle.cells.proofs.add_row.Statement.{statement}
-use Rattle.cells.proofs.add_row.Tie as tie
+use Rattle.stores.specs.Stores.{withRow}
+use Rattle.stores.proofs.add_row.Statement.{statement}
+use Rattle.stores.proofs.add_row.Tie as tie
 
 returns : tie.Need-returns
 unfolding withRow

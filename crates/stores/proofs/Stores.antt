@@ -11,13 +11,14 @@ use lib.Dec.{eqb, lit≤, lit<}
 use lib.ListN.{getD, set, length, length-set, replicate, length-replicate, getD-replicate}
 use lib.Seq.{getD-set-same, getD-set-other, ext-getD}
 use Rattle.rules.specs.Book.{opened}
 use Rattle.cells.specs.Layout.{CELLS, DIRECTIONS, PROFILES, PARTIES, OFFERED, GRANTED, MATCHED, RIGHTS, PAIRS}
 use Rattle.cells.specs.Loops.{rows}
 use Rattle.cells.specs.View.{cell, cellFrom, part, dayHoursIn, weekdayIn, directionsIn, profilesIn, partiesIn, offeredIn, grantedIn, matchedIn, rightsIn, pairsIn, bookOf}
-use Rattle.cells.specs.Stores.{clocked, emptied}
-use Rattle.cells.proofs.Rows.{rows-length, rows-at, rows-set}
+use Rattle.stores.specs.Stores.{clocked, emptied}
+use Rattle.cells.proofs.Rows.{rows-length, rows-set}
+use Rattle.cells.proofs.Views.{part-at}
 use Rattle.cells.proofs.Regions.{Within, within-more, only-offered, only-matched, only-clock}
 use Rattle.cells.specs.Updates.{withOffered, withMatched, withClock}
 
 -- ---- one cell
 
@@ -27,15 +28,6 @@ set-within b at v lo hi l u =
       below = λ i h. getD-set-other b at i v 0 (λ e. omega arith);
       above = λ i h. getD-set-other b at i v 0 (λ e. omega arith);
     }
-
-pub part-length : (b : List ℕ) (at n : ℕ) → length (part b at n) ≡ n
-unfolding part
-part-length b at n = rows-length (cellFrom b at) n 0
-
--- a cell of a part
-pub part-at : (b : List ℕ) (at n i : ℕ) → i < n → getD (part b at n) i 0 ≡ cell b (at + i)
-unfolding part cellFrom
-part-at b at n i l = rows-at (cellFrom b at) n 0 i 0 l ∙ rw (zero-add i)
 
 pub part-set : (b : List ℕ) (at n i v : ℕ) → i < n → at + i < length b → part (set b (at + i) v) at n ≡ set (part b at n) i v
 unfolding part cellFrom

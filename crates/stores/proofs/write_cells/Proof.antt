@@ -7,9 +7,9 @@ use native.Mathlib.Omega.{arith}
 use native.Mathlib.Nat.{add-zero}
 use lib.ListN.{length, drop}
 use lib.Seq.{sets}
-use Rattle.cells.proofs.Tables.{sets-next, sets-done}
-use Rattle.cells.proofs.write_cells.Statement.{statement}
-use Rattle.cells.proofs.write_cells.Tie as tie
+use Rattle.stores.proofs.Tables.{sets-next, sets-done}
+use Rattle.stores.proofs.write_cells.Statement.{statement}
+use Rattle.stores.proofs.write_cells.Tie as tie
 
 abbrev Inv-loop : tie.InvT-loop
 Inv-loop book₀ at row k₀ k-end book k = ((k ≤ k-end) × (k-end ≡ length row)) × (sets book₀ at row ≡ sets book (at + k) (drop k row))

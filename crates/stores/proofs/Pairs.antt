@@ -13,13 +13,13 @@ use lib.ListN.{getD, set, length, length-append, List·getD-append}
 use lib.Seq.{sets, getD-append-add}
 use Rattle.rules.specs.Book.{Pair, pairLimit}
 use Rattle.rules.specs.Nominations.{isPairOf, pairTaken, emptyPair, pairOf, withSide, withPair}
 use Rattle.cells.specs.Layout.{CELLS, PAIRS}
 use Rattle.cells.specs.View.{cell, part, counted, pairAt, pairsIn, bookOf}
-use Rattle.cells.specs.Stores.{withRow}
+use Rattle.stores.specs.Stores.{withRow}
 use Rattle.cells.specs.Updates.{withPairs}
 use Rattle.cells.proofs.Regions.{only-pairs, part-agree}
-use Rattle.cells.proofs.Tables.{part-own, part-written, row-cell, row-within, table-more, sets-other, sets-at}
-use Rattle.cells.proofs.Firsts.{placeOf, someOf, changed, table-set}
+use Rattle.stores.proofs.Tables.{part-own, part-written, row-cell, row-within, table-more, sets-other, sets-at}
+use Rattle.stores.proofs.Firsts.{placeOf, someOf, changed, table-set}
 
 -- ---- the rules' own searches and changes
 

@@ -1,8 +1,8 @@
 -- `cells::set_offered` meets its contract.
 -- Assumes nothing.
 use borrow.Author.Needs.{needs}
-use Rattle.cells.proofs.set_offered.Statement.{statement}
-use Rattle.cells.proofs.set_offered.Tie as tie
+use Rattle.stores.proofs.set_offered.Statement.{statement}
+use Rattle.stores.proofs.set_offered.Tie as tie
 
 returns : tie.Need-returns
 returns c = rw (c .place-of .ensures .place-is)

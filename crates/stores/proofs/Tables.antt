@@ -10,14 +10,14 @@ use native.Mathlib.Numerals.{add-one}
 use lib.ListN.{getD, set, length, drop, length-set, drop-of-length-le, length-append, List·getD-append}
 use lib.Seq.{getD-set-same, getD-set-other, sets, length-sets, drop-cons, ext-getD, getD-append-seam}
 use Rattle.rules.specs.Book.{Direction, Party, Right, directionLimit, partyLimit, profileLimit, rightLimit}
 use Rattle.cells.specs.Loops.{rows}
 use Rattle.cells.specs.Layout.{CELLS, DIRECTIONS, PROFILES, PARTIES, OFFERED, RIGHTS, PAIRS}
 use Rattle.cells.specs.View.{cell, cellFrom, part, counted, directionAt, directionsIn, profilesIn, partyAt, partiesIn, rightAt, rightsIn, bookOf}
-use Rattle.cells.specs.Stores.{withRow}
+use Rattle.stores.specs.Stores.{withRow}
 use Rattle.cells.proofs.Rows.{rows-same, rows-more}
 use Rattle.cells.proofs.Regions.{Within, only-directions, only-profiles, only-parties, only-rights, part-agree}
 use Rattle.cells.specs.Updates.{withDirections, withProfiles, withParties, withRights}
-use Rattle.cells.proofs.Stores.{part-at, part-length}
+use Rattle.cells.proofs.Views.{part-at, part-length}
 
 -- ---- a loop that writes a row
 
