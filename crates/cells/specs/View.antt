@@ -38,7 +38,7 @@ pub record Places (row hour r : ℕ) : Type 0 where
   pub below : r < 800
 
 -- what is known of any book's cells: their count, and that each is a number of 32 bits
-pub record Sound (b : List ℕ) (n : ℕ) : Type 0 where
+pub record InRange (b : List ℕ) (n : ℕ) : Type 0 where
   pub count : n ≡ length b
   pub each : (i : ℕ) → i < length b → cell b i < 2 ^ 32
 

@@ -5,7 +5,7 @@ ghost use lib.ListN.{getD};
 ghost use Rattle.rules.specs.Book.{place, flag, leftAt, directionLimit, rightLimit};
 ghost use Rattle.rules.specs.Refusals.{isMatched};
 ghost use Rattle.cells.specs.Layout.{CELLS, OFFERED, GRANTED};
-ghost use Rattle.cells.specs.View.{InHour, Places, Sound, Cells, bookOf, counted, dayHoursIn, directionAt, startedIn, weekdayIn, clockIn, rightAt};
+ghost use Rattle.cells.specs.View.{InHour, Places, InRange, Cells, bookOf, counted, dayHoursIn, directionAt, startedIn, weekdayIn, clockIn, rightAt};
 use rules::Hour;
 use rules::Session;
 
@@ -71,8 +71,8 @@ pub enum Found {
 }
 
 // Each cell is a number of 32 bits.
-fn sound(s: &[u32]) -> usize
-    ensures { λ r. ⌜ Sound (now (s .entry)) r ⌝ }
+fn in_range(s: &[u32]) -> usize
+    ensures { λ r. ⌜ InRange (now (s .entry)) r ⌝ }
 {
     if 0 < s.len() {
         let x = s[0];
@@ -84,7 +84,7 @@ fn sound(s: &[u32]) -> usize
 pub fn cells_in(book: &Book)
     ensures { λ r. ⌜ Cells (now (book .entry)) ⌝ }
 {
-    sound(book);
+    in_range(book);
 }
 
 pub fn hours(book: &Book) -> u8

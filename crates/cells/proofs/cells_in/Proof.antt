@@ -11,7 +11,7 @@ use Rattle.cells.proofs.cells_in.Tie as tie
 returns : tie.Need-returns
 returns c =
     let n : length (now (c .before .before .args .book)) ≡ CELLS = search needs in
-    record { count = n; each = λ i l. c .sound .ensures .each i (rw n l) }
+    record { count = n; each = λ i l. c .in-range .ensures .each i (rw n l) }
 
 pub cells-in-spec : {M : Type 1} → statement M
 cells-in-spec = tie.close (tie.spec (λ c κs. search needs) returns)
