@@ -1,12 +1,15 @@
-// What the calls answer: a verdict before anything is stored, and the replies of the reads. What each call promises stands in specs/.
+// What the calls answer: a verdict before anything is stored, the replies of the reads, and the numbers of an answer. What each call promises stands in specs/.
 ghost use mathlib.Core.Path.{_≡_};
 ghost use lib.Dec.{ltb};
 ghost use Rattle.rules.specs.Basics.{bit};
+ghost use Rattle.rules.specs.Said.{said, saidNumbers, capacityNumber};
 ghost use Rattle.rules.specs.Refusals.{partyUnknown, directionUnknown, hourUnknown};
 ghost use Rattle.cells.specs.View.{bookOf};
 use cells::Book;
 use rules::Answer;
+use rules::CapacityOf;
 use rules::Hour;
+use rules::ReplyNumbers;
 use rules::Session;
 
 // What the tests of a call find: nothing against it, or the refusal.
@@ -69,4 +72,59 @@ pub fn has_access(map: u32, operator: u32) -> bool
     ensures { λ r. ⌜ r ≡ bit map operator ⌝ }
 {
     operator < 32 && (map >> operator) % 2 == 1
+}
+
+// ---- the paper's numbers
+
+// A refusal with no details.
+fn refused(number: u8) -> ReplyNumbers
+    ensures { λ r. ⌜ r ≡ record { number = number; first = 0; second = 0 } ⌝ }
+{
+    ReplyNumbers {
+        number,
+        first: 0,
+        second: 0,
+    }
+}
+
+// 0 for the direction, or 1 + the profile's number.
+fn capacity_number(capacity: CapacityOf) -> u32
+    ensures { λ r. ⌜ r ≡ capacityNumber capacity ⌝ }
+{
+    match capacity {
+        CapacityOf::Direction => 0,
+        CapacityOf::Profile(p) => 1 + p as u32,
+    }
+}
+
+// The paper's number of an answer and both details.
+pub fn numbers(answer: Answer) -> ReplyNumbers
+    ensures { λ r. ⌜ saidNumbers r ≡ said answer ⌝ }
+{
+    match answer {
+        Answer::Granted(detail) => ReplyNumbers {
+            number: 0,
+            first: detail,
+            second: 0,
+        },
+        Answer::Record => refused(1),
+        Answer::Day => refused(2),
+        Answer::Field => refused(3),
+        Answer::SetupShut => refused(4),
+        Answer::Clock => refused(5),
+        Answer::Unknown => refused(6),
+        Answer::Taken => refused(7),
+        Answer::Gate => refused(8),
+        Answer::Hours => refused(9),
+        Answer::Access => refused(10),
+        Answer::Owner => refused(11),
+        Answer::Cycle => refused(12),
+        Answer::Full => refused(13),
+        Answer::Below => refused(14),
+        Answer::Short(hour, capacity) => ReplyNumbers {
+            number: 15,
+            first: hour.0 as u32,
+            second: capacity_number(capacity),
+        },
+    }
 }

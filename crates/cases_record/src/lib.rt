@@ -155,7 +155,7 @@ fn read(bytes: &[u8]) -> Reading {
     let answer = read.answer;
     let call = read.call;
     Reading {
-        reply: rules::numbers(answer),
+        reply: answers::numbers(answer),
         length: read.length,
         fields: fields_of(call),
         mw: mw_of(call),
@@ -252,7 +252,7 @@ fn written_case(
     due: ReplyNumbers,
     expected: &[u8],
 ) -> Tally {
-    let answer = rules::numbers(record::write(call, buffer));
+    let answer = answers::numbers(record::write(call, buffer));
     print_write(call, buffer.len());
     print_written(answer, buffer);
     text(b"; expected");

@@ -129,5 +129,5 @@ pub fn confirmed_of(book: &Book, right: u16, out: u8, into: u8) -> ConfirmedRead
 pub fn numbers(answer: Answer) -> ReplyNumbers
     ensures { λ r. ⌜ saidNumbers r ≡ said answer ⌝ }
 {
-    rules::numbers(answer)
+    answers::numbers(answer)
 }

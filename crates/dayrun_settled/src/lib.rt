@@ -14,7 +14,7 @@ fn is_read(bytes: &[u8]) -> bool
 {
     let read = record::read(bytes);
     let answer = read.answer;
-    let reply = rules::numbers(answer);
+    let reply = answers::numbers(answer);
     reply.number == 0
 }
 

@@ -1,7 +1,6 @@
 // The types that the day book's crates share. Document 01's rules over them stand in specs/, what follows from them in proofs/.
 ghost use mathlib.Core.Path.{_≡_};
 ghost use Prim.Native.Nat.{_-_};
-ghost use Rattle.rules.specs.Said.{said, saidNumbers, capacityNumber};
 
 // A session's number. Only the session rule turns it into an hour.
 pub struct Session(pub u8);
@@ -62,57 +61,4 @@ pub fn less(a: u32, b: u32) -> u32
     ensures { λ r. ⌜ r ≡ a - b ⌝ }
 {
     if b <= a { a - b } else { 0 }
-}
-
-// A refusal with no details.
-fn refused(number: u8) -> ReplyNumbers
-    ensures { λ r. ⌜ r ≡ record { number = number; first = 0; second = 0 } ⌝ }
-{
-    ReplyNumbers {
-        number,
-        first: 0,
-        second: 0,
-    }
-}
-
-// 0 for the direction, or 1 + the profile's number.
-fn capacity_number(capacity: CapacityOf) -> u32
-    ensures { λ r. ⌜ r ≡ capacityNumber capacity ⌝ }
-{
-    match capacity {
-        CapacityOf::Direction => 0,
-        CapacityOf::Profile(p) => 1 + p as u32,
-    }
-}
-
-// The paper's number of an answer and both details.
-pub fn numbers(answer: Answer) -> ReplyNumbers
-    ensures { λ r. ⌜ saidNumbers r ≡ said answer ⌝ }
-{
-    match answer {
-        Answer::Granted(detail) => ReplyNumbers {
-            number: 0,
-            first: detail,
-            second: 0,
-        },
-        Answer::Record => refused(1),
-        Answer::Day => refused(2),
-        Answer::Field => refused(3),
-        Answer::SetupShut => refused(4),
-        Answer::Clock => refused(5),
-        Answer::Unknown => refused(6),
-        Answer::Taken => refused(7),
-        Answer::Gate => refused(8),
-        Answer::Hours => refused(9),
-        Answer::Access => refused(10),
-        Answer::Owner => refused(11),
-        Answer::Cycle => refused(12),
-        Answer::Full => refused(13),
-        Answer::Below => refused(14),
-        Answer::Short(hour, capacity) => ReplyNumbers {
-            number: 15,
-            first: hour.0 as u32,
-            second: capacity_number(capacity),
-        },
-    }
 }

@@ -1,8 +1,8 @@
--- `rules::capacity_number` meets its contract.
+-- `answers::capacity_number` meets its contract.
 -- Assumes nothing.
 use borrow.Author.Needs.{needs}
-use Rattle.rules.proofs.capacity_number.Statement.{statement}
-use Rattle.rules.proofs.capacity_number.Tie as tie
+use Rattle.answers.proofs.capacity_number.Statement.{statement}
+use Rattle.answers.proofs.capacity_number.Tie as tie
 
 returns-2 : tie.Need-returns-2
 returns-2 c = rw (c .before .capacity .given .1)

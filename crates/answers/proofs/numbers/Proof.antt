@@ -1,8 +1,8 @@
--- `rules::numbers` meets its contract.
+-- `answers::numbers` meets its contract.
 -- Assumes nothing.
 use borrow.Author.Needs.{needs}
-use Rattle.rules.proofs.numbers.Statement.{statement}
-use Rattle.rules.proofs.numbers.Tie as tie
+use Rattle.answers.proofs.numbers.Statement.{statement}
+use Rattle.answers.proofs.numbers.Tie as tie
 
 returns : tie.Need-returns
 returns c = rw (c .before .answer .given .1)
