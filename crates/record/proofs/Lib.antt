@@ -1,5 +1,3 @@
-pub mod KindBits
-pub mod Fields
 pub mod Turns
 pub mod Whole
 pub mod RoundTrip

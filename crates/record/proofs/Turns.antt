@@ -2,25 +2,19 @@
 -- Assumes nothing.
 use Prim.Native.Nat.{ℕ, suc, _+_, _*_, _-_, _/_, _%_, _≤_, _<_}
 use mathlib.Core.Path.{_≡_, refl, sym, _∙_}
-use mathlib.Core.Bool.{Bool, true, false, cond, _||_, _&&_, not}
+use mathlib.Core.Bool.{Bool, true, false, cond}
 use mathlib.Core.List.{List, [], _∷_, _++_}
 use native.Mathlib.Omega.{arith}
 use native.Mathlib.Numerals.{add-one}
 use native.Mathlib.Nat.{pow-le-pow-right}
-use mir.Val.{boolByte}
-use lib.Dec.{eqb}
-use lib.ListN.{length, getD, take, drop, set, length-append, length-drop, drop-of-length-le}
-use lib.Pow.{pow-mono}
-use lib.Seq.{drop-cons, append-snoc, take-suc-set, sets}
-use Rattle.rules.specs.Basics.{bit, mapOf, has}
-use Rattle.rules.specs.Records.{Kind, widths, stands, standing, foreign, bytesOf, body, numberAt, taking, fieldsAt, endAt}
-use Rattle.rules.proofs.Bits.{map-below}
+use lib.ListN.{length, getD, take, drop, set, length-append, drop-of-length-le}
+use lib.Seq.{append-snoc, take-suc-set, sets}
+use Rattle.rules.specs.Basics.{bit}
+use Rattle.rules.specs.Records.{Kind, widths, stands, bytesOf, body, numberAt, taking, fieldsAt, endAt}
 use Rattle.rules.proofs.Stores.{sets-append}
-use Rattle.rules.proofs.Records.{bytes-length, number-below, standing-length}
-use Rattle.record.specs.Steps.{Size}
-
-drop-next : (xs : List ℕ) (i : ℕ) → i < length xs → drop i xs ≡ getD xs i 0 ∷ drop (i + 1) xs
-drop-next xs i l = rw (add-one i) (drop-cons xs i 0 l)
+use Rattle.rules.proofs.Records.{bytes-length, number-below}
+use Rattle.fields.specs.Fields.{Size}
+use Rattle.fields.proofs.Turns.{drop-next}
 
 -- ---- a number, byte by byte
 
@@ -44,33 +38,6 @@ bytes-next b at i w v l =
 pub number-room : (w left at : ℕ) (s : List ℕ) → ((i : ℕ) → getD s i 0 < 256) → 0 < left → w ≤ 4 → numberAt (w - left) s (at + left) < 16777216
 number-room w left at s b p l =
     omega (arith, number-below (w - left) s (at + left) b, pow-le-pow-right {n = 256} (omega arith) {i = w - left} {j = 3} (omega arith))
-
--- ---- the fields, one by one
-
-pub foreign-next : (k : Kind) (vs : List ℕ) (i : ℕ) → i < length vs
-    → foreign k i (drop i vs) ≡ ((not (has i (k .always) || has i (k .mws)) && not (eqb (getD vs i 0) 0)) || foreign k (i + 1) (drop (i + 1) vs))
-unfolding foreign
-foreign-next k vs i l = rw (drop-next vs i l, add-one i)
-
-one-if : (p : Bool) → boolByte p ≡ cond p 1 0
-one-if true = refl
-one-if false = refl
-
-pub map-next : (k : Kind) (vs : List ℕ) (i : ℕ) (p : Bool) → 0 < i → i ≤ length vs → p ≡ stands k (i - 1) (getD vs (i - 1) 0)
-    → boolByte p + 2 * mapOf (standing k i (drop i vs)) ≡ mapOf (standing k (i - 1) (drop (i - 1) vs))
-unfolding mapOf standing
-map-next k vs i p l m e =
-    let n : i - 1 + 1 ≡ i = omega arith in
-    rw (drop-next vs (i - 1) (omega arith), n, one-if p, e, ← add-one (i - 1), n)
-
-pub one-most : (p : Bool) → boolByte p ≤ 1
-one-most true = omega arith
-one-most false = omega arith
-
-pub map-fits : (k : Kind) (vs : List ℕ) (i : ℕ) → length vs ≡ 15 → mapOf (standing k i (drop i vs)) < 32768
-map-fits k vs i n =
-    let most : length (standing k i (drop i vs)) ≤ 15 = rw (standing-length k i (drop i vs), length-drop i vs) (omega arith) in
-    omega (arith, map-below (standing k i (drop i vs)), pow-mono most)
 
 -- ---- the fields and their widths
 

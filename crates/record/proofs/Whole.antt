@@ -14,9 +14,10 @@ use Rattle.rules.specs.Records.{widths, fieldsOf, callOf, kindAt, isKind, mapFo
 use Rattle.rules.specs.declared.Answer.the-variants.{Granted, Record}
 use Rattle.rules.specs.declared.CallRecord.{CallRecord}
 use Rattle.rules.proofs.Records.{bytes-length, neither, fields-below, reading-by, writing-by}
+use Rattle.fields.specs.Fields.{FieldsFit, CallFits}
 use Rattle.record.specs.declared.Found.{Found}
 use Rattle.record.specs.Steps.{Finds, refusesFound, Length}
-use Rattle.record.specs.Promises.{FieldsFit, CallFits, Reads, Writes}
+use Rattle.record.specs.Promises.{Reads, Writes}
 use Rattle.rules.proofs.Stores.{sets-append}
 
 -- ---- reading

@@ -1,23 +1,15 @@
 -- What `read` and `write` promise.
 -- Assumes nothing.
-use Prim.Native.Nat.{ℕ, _<_, _^_}
+use Prim.Native.Nat.{ℕ, _<_}
 use mathlib.Core.Path.{_≡_}
 use mathlib.Core.List.{List}
-use lib.ListN.{length, getD}
+use lib.ListN.{getD}
 use Rattle.rules.specs.Said.{said}
-use Rattle.rules.specs.Records.{widths, fieldsOf, RecordReply, reading, writing}
+use Rattle.rules.specs.Records.{RecordReply, reading, writing}
 use Rattle.rules.specs.declared.Answer.{Answer}
 use Rattle.rules.specs.declared.CallRecord.{CallRecord}
+use Rattle.fields.specs.Fields.{CallFits}
 use Rattle.record.specs.declared.RecordRead.{RecordRead}
-
--- each value fits the width of its field
-abbrev pub FieldsFit : List ℕ → Type 0
-FieldsFit vs = (i : ℕ) → getD vs i 0 < 256 ^ getD widths i 0
-
--- what the types of a call's fields say of their values
-pub record CallFits (c : CallRecord) : Type 0 where
-  pub hours : length (c .mw) ≡ 5
-  pub fields : FieldsFit (fieldsOf c)
 
 -- the answer, the length and the call, as document 01 has them
 abbrev pub readSaid : RecordRead → RecordReply

@@ -4,7 +4,7 @@ use mathlib.Core.List.{[], _∷_}
 use native.Mathlib.Omega.{arith}
 use borrow.Author.Needs.{needs}
 use Rattle.rules.specs.Records.{widths, callOf, noCall}
-use Rattle.record.proofs.Fields.{fit-at}
+use Rattle.fields.proofs.Fields.{fit-at}
 use Rattle.record.proofs.Whole.{found-fits, read-refused, read-granted}
 use Rattle.record.proofs.read.Statement.{statement}
 use Rattle.record.proofs.read.Tie as tie

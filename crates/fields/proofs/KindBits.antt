@@ -10,7 +10,7 @@ use lib.ListN.{getD, List·getD-eq-default}
 use Rattle.rules.specs.Basics.{bit, mapOf, has}
 use Rattle.rules.specs.Records.{kinds, kindAt}
 use Rattle.rules.proofs.Bits.{bit-of-map}
-use Rattle.record.specs.Steps.{amongBits, kindMaps}
+use Rattle.fields.specs.Fields.{amongBits, kindMaps}
 
 among-at : (n i j : ℕ) (ns : List ℕ) → j < n → getD (amongBits n i ns) j false ≡ has (i + j) ns
 unfolding amongBits

@@ -1,4 +1,4 @@
--- `record::any_foreign` meets its contract. The invariant: what is left is the search from `field` on.
+-- `fields::any_foreign` meets its contract. The invariant: what is left is the search from `field` on.
 -- Assumes nothing.
 use Prim.Native.Nat.{_≤_, _<_, _-_}
 use mathlib.Core.Path.{_≡_, refl, sym, _∙_}
@@ -6,9 +6,9 @@ use native.Mathlib.Omega.{arith}
 use borrow.Author.Needs.{needs}
 use lib.ListN.{length, drop, drop-of-length-le}
 use Rattle.rules.specs.Records.{kindAt, foreign}
-use Rattle.record.proofs.Turns.{foreign-next}
-use Rattle.record.proofs.any_foreign.Statement.{statement}
-use Rattle.record.proofs.any_foreign.Tie as tie
+use Rattle.fields.proofs.Turns.{foreign-next}
+use Rattle.fields.proofs.any_foreign.Statement.{statement}
+use Rattle.fields.proofs.any_foreign.Tie as tie
 
 abbrev Inv-loop : tie.InvT-loop
 Inv-loop kind values field₀ field = ((field ≤ 15) × (length values ≡ 15)) × (foreign (kindAt kind) 0 values ≡ foreign (kindAt kind) field (drop field values))

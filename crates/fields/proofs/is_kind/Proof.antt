@@ -1,8 +1,8 @@
--- `record::is_kind` meets its contract.
+-- `fields::is_kind` meets its contract.
 -- Assumes nothing.
 use borrow.Author.Tests.{lt-ltb, le-ltb}
-use Rattle.record.proofs.is_kind.Statement.{statement}
-use Rattle.record.proofs.is_kind.Tie as tie
+use Rattle.fields.proofs.is_kind.Statement.{statement}
+use Rattle.fields.proofs.is_kind.Tie as tie
 
 returns : tie.Need-returns
 returns c = simp (lt-ltb _ _ (c .if1 .taken))

@@ -1,12 +1,12 @@
--- `record::size_of` meets its contract.
+-- `fields::size_of` meets its contract.
 -- Assumes nothing.
 use mathlib.Core.Path.{refl}
 use borrow.Author.Needs.{needs}
 use Rattle.rules.specs.Basics.{anyAbove}
 use Rattle.rules.specs.Records.{widths}
 use Rattle.rules.proofs.Above.{at-most}
-use Rattle.record.proofs.size_of.Statement.{statement}
-use Rattle.record.proofs.size_of.Tie as tie
+use Rattle.fields.proofs.size_of.Statement.{statement}
+use Rattle.fields.proofs.size_of.Tie as tie
 
 returns : tie.Need-returns
 unfolding widths anyAbove

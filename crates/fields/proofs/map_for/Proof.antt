@@ -1,4 +1,4 @@
--- `record::map_for` meets its contract. The invariant: `map` has the bits from `field` on.
+-- `fields::map_for` meets its contract. The invariant: `map` has the bits from `field` on.
 -- Assumes nothing.
 use Prim.Native.Nat.{_≤_, _-_}
 use mathlib.Core.Path.{_≡_, _∙_}
@@ -7,9 +7,9 @@ use borrow.Author.Needs.{needs}
 use lib.ListN.{length, drop, drop-of-length-le}
 use Rattle.rules.specs.Basics.{mapOf}
 use Rattle.rules.specs.Records.{kindAt, standing}
-use Rattle.record.proofs.Turns.{map-next, map-fits, one-most}
-use Rattle.record.proofs.map_for.Statement.{statement}
-use Rattle.record.proofs.map_for.Tie as tie
+use Rattle.fields.proofs.Turns.{map-next, map-fits, one-most}
+use Rattle.fields.proofs.map_for.Statement.{statement}
+use Rattle.fields.proofs.map_for.Tie as tie
 
 abbrev Inv-loop : tie.InvT-loop
 Inv-loop kind values map₀ field₀ map field =

@@ -1,11 +1,11 @@
--- `record::call_of` meets its contract.
+-- `fields::call_of` meets its contract.
 -- Assumes nothing.
 use mathlib.Core.Path.{refl}
 use native.Mathlib.Omega.{arith}
 use borrow.Author.Needs.{needs}
 use Rattle.rules.specs.Records.{widths, callOf}
-use Rattle.record.proofs.call_of.Statement.{statement}
-use Rattle.record.proofs.call_of.Tie as tie
+use Rattle.fields.proofs.call_of.Statement.{statement}
+use Rattle.fields.proofs.call_of.Tie as tie
 
 pub call-of-spec : {M : Type 1} → statement M
 unfolding widths callOf

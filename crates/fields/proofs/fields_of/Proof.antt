@@ -1,10 +1,10 @@
--- `record::fields_of` meets its contract.
+-- `fields::fields_of` meets its contract.
 -- Assumes nothing.
 use native.Mathlib.Omega.{arith}
 use borrow.Author.Needs.{needs}
 use Rattle.rules.specs.Records.{widths, fieldsOf}
-use Rattle.record.proofs.fields_of.Statement.{statement}
-use Rattle.record.proofs.fields_of.Tie as tie
+use Rattle.fields.proofs.fields_of.Statement.{statement}
+use Rattle.fields.proofs.fields_of.Tie as tie
 
 cast-hour : tie.Need-cast-t33
 unfolding widths fieldsOf

@@ -1,4 +1,4 @@
--- `record::mw_of` meets its contract. The ranges are what owning the call gives.
+-- `fields::mw_of` meets its contract. The ranges are what owning the call gives.
 -- Assumes nothing.
 use Prim.Native.Nat.{ℕ}
 use mathlib.Core.Path.{refl}
@@ -8,9 +8,9 @@ use mir.Val.{Fits}
 use mir.Syntax.{w16}
 use lib.ListN.{getD}
 use Rattle.rules.specs.Records.{widths, fieldsOf}
-use Rattle.record.proofs.Fields.{fit-at}
-use Rattle.record.proofs.mw_of.Statement.{statement}
-use Rattle.record.proofs.mw_of.Tie as tie
+use Rattle.fields.proofs.Fields.{fit-at}
+use Rattle.fields.proofs.mw_of.Statement.{statement}
+use Rattle.fields.proofs.mw_of.Tie as tie
 
 returns : tie.Need-returns
 unfolding widths fieldsOf

@@ -1,10 +1,10 @@
--- `record::has_bit` meets its contract.
+-- `fields::has_bit` meets its contract.
 -- Assumes nothing.
 use mathlib.Core.Path.{refl}
 use borrow.Author.Needs.{needs}
 use Rattle.rules.specs.Basics.{bit}
-use Rattle.record.proofs.has_bit.Statement.{statement}
-use Rattle.record.proofs.has_bit.Tie as tie
+use Rattle.fields.proofs.has_bit.Statement.{statement}
+use Rattle.fields.proofs.has_bit.Tie as tie
 
 returns : tie.Need-returns
 unfolding bit

@@ -1,14 +1,14 @@
--- `record::maps_of` meets its contract. Each arm is the table of kinds at its number, computed.
+-- `fields::maps_of` meets its contract. Each arm is the table of kinds at its number, computed.
 -- Assumes nothing.
 use Prim.Native.Nat.{ℕ}
 use mathlib.Core.Path.{_≡_, sym, ap}
 use native.Mathlib.Omega.{arith}
 use Rattle.rules.specs.Basics.{mapOf, has}
 use Rattle.rules.specs.Records.{kinds, kindAt}
-use Rattle.record.specs.Steps.{amongBits, kindMaps}
-use Rattle.record.proofs.KindBits.{no-kind}
-use Rattle.record.proofs.maps_of.Statement.{statement}
-use Rattle.record.proofs.maps_of.Tie as tie
+use Rattle.fields.specs.Fields.{amongBits, kindMaps}
+use Rattle.fields.proofs.KindBits.{no-kind}
+use Rattle.fields.proofs.maps_of.Statement.{statement}
+use Rattle.fields.proofs.maps_of.Tie as tie
 
 maps-at : (kind n : ℕ) → kind ≡ n → kindMaps (kindAt n) ≡ kindMaps (kindAt kind)
 maps-at kind n e = sym (ap (λ (k : ℕ). kindMaps (kindAt k)) e)

@@ -1,0 +1,3 @@
+pub mod KindBits
+pub mod Fields
+pub mod Turns
