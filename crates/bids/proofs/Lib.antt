@@ -1,4 +1,3 @@
-pub mod Rights
 pub mod Tests
 pub mod Verdicts
 pub mod Placing

@@ -30,11 +30,12 @@ use Rattle.capacity.specs.Search.{Hours}
 use Rattle.rules.proofs.Above.{zeros-from}
 use Rattle.answers.specs.Promises.{Answers}
 use Rattle.answers.proofs.Laws.{granted}
-use Rattle.bids.proofs.Rights.{enters-still}
+use Rattle.rights.proofs.Rights.{enters-still}
 use Rattle.bids.proofs.Tests.{session-hours}
 use Rattle.bids.proofs.Verdicts.{KnownBid, known-bid}
-use Rattle.bids.specs.declared.Entry.{Entry}
-use Rattle.bids.specs.Work.{Enters, Booked, Placed}
+use Rattle.rights.specs.declared.Entry.{Entry}
+use Rattle.rights.specs.Work.{Enters, Booked}
+use Rattle.bids.specs.Work.{Placed}
 
 -- what a bid that nothing refuses may rely on, by the model in the cells
 pub record Ready (b : List ℕ) (p d s : ℕ) (mw : List ℕ) : Type 0 where

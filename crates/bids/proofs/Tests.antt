@@ -6,24 +6,17 @@ use mathlib.Core.Bool.{Bool, true, false, cond}
 use mathlib.Core.List.{List}
 use native.Mathlib.Omega.{arith}
 use lib.Dec.{eqb, leb}
-use lib.ListN.{length, getD, List·getD-eq-default}
-use borrow.Author.Tests.{le-leb, lt-leb}
-use Rattle.rules.specs.Basics.{noMw}
+use lib.ListN.{length, getD}
 use Rattle.rules.specs.Sessions.{sessionThere, firstHour, hoursIn, firstHourThere}
 use Rattle.rules.specs.Bids.{shortage}
-use Rattle.rules.specs.Refusals.{order, firstOf}
-use Rattle.rules.specs.Reads.{rightReadRefuses, readRight}
-use Rattle.rules.specs.declared.Answer.the-variants.{Granted, Unknown}
 use Rattle.rules.proofs.Sessions.{hours-there}
-use Rattle.rules.specs.Book.{directionLimit, rightLimit}
-use Rattle.cells.specs.Layout.{RIGHTS}
-use Rattle.cells.specs.View.{counted, dayHoursIn, rightAt, bookOf}
-use Rattle.cells.proofs.Views.{hours-few, hours-within, right-count, right-at}
+use Rattle.rules.specs.Book.{directionLimit}
+use Rattle.cells.specs.View.{dayHoursIn, bookOf}
+use Rattle.cells.proofs.Views.{hours-few, hours-within}
 use Rattle.capacity.specs.Search.{Hours, shortageIn, found}
 use Rattle.capacity.specs.declared.Search.{Search}
 use Rattle.capacity.proofs.View.{shortage-view}
-use Rattle.answers.specs.Promises.{saidRight}
-use Rattle.bids.specs.Work.{Session-known, Searched, readOf}
+use Rattle.bids.specs.Work.{Session-known, Searched}
 
 -- ---- the direction and the session
 
@@ -59,16 +52,3 @@ searched b n model d s first count mw r p size k f c e =
     let u : count ≤ length mw = omega arith in
     let z : (j : ℕ) → count ≤ j → getD mw j 0 ≡ 0 = λ j l. k .lacking j (rw (← p, ← c) l) in
     record { found-is = ap found e ∙ shortage-view b d first count mw u z ∙ ap (λ (x : ℕ). shortage (bookOf b) d x mw) h }
-
--- ---- the read of a right
-
-pub right-unknown : (b : List ℕ) (r : ℕ) → counted b RIGHTS rightLimit ≤ r
-    → saidRight (record { answer = Unknown; holder = 0; direction = 0; session = record { 0 = 0 }; mw = noMw }) ≡ readRight (bookOf b) r
-unfolding readRight rightReadRefuses firstOf order
-right-unknown b r l =
-    let m : length (bookOf b .rights) ≤ r = rw (right-count b) l in
-    rw (le-leb (length (bookOf b .rights)) r m, List·getD-eq-default (bookOf b .rights) (record { holder = 0; direction = 0; session = 0; mw = noMw }) {n = r} m)
-
-pub right-known : (b : List ℕ) (r : ℕ) → r < counted b RIGHTS rightLimit → saidRight (readOf (Granted 0) (rightAt b r)) ≡ readRight (bookOf b) r
-unfolding readRight rightReadRefuses firstOf order
-right-known b r l = rw (lt-leb (length (bookOf b .rights)) r (rw (right-count b) l), right-at b r l)

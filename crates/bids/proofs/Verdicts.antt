@@ -29,10 +29,11 @@ use Rattle.capacity.specs.declared.Search.{Search}
 use Rattle.capacity.specs.declared.Search.the-variants.{Short as ShortIn, Enough}
 use Rattle.rules.proofs.Above.{zeros-from}
 use Rattle.answers.proofs.Laws.{Left, pass, refuse, none-left}
-use Rattle.bids.specs.declared.Entry.{Entry}
+use Rattle.rights.specs.declared.Entry.{Entry}
 use Rattle.bids.specs.declared.BidVerdict.{BidVerdict}
 use Rattle.bids.specs.declared.BidVerdict.the-variants.{Clear, No}
-use Rattle.bids.specs.Work.{Enters, JudgedBid, Session-known, Searched}
+use Rattle.rights.specs.Work.{Enters}
+use Rattle.bids.specs.Work.{JudgedBid, Session-known, Searched}
 
 -- the numbers that can apply to a bid
 pub bid-left : (b : Book) (t p d s : ℕ) (mw : List ℕ) → Left b (Bid t p d s mw) (3 ∷ 5 ∷ 6 ∷ 8 ∷ 9 ∷ 10 ∷ 13 ∷ 15 ∷ [])

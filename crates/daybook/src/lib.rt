@@ -114,7 +114,7 @@ pub fn left_of_profile(book: &Book, profile: u8, hour: Hour) -> LeftRead
 pub fn right_at(book: &Book, right: u16) -> RightRead
     ensures { λ r. ⌜ ReadsRight (now (book .entry)) right r ⌝ }
 {
-    bids::right_at(book, right)
+    rights::right_at(book, right)
 }
 
 pub fn confirmed_of(book: &Book, right: u16, out: u8, into: u8) -> ConfirmedRead

@@ -11,9 +11,10 @@ use Rattle.rules.specs.declared.Answer.the-variants.{Field, Clock, Unknown, Gat
 use Rattle.cells.specs.View.{directionAt, bookOf}
 use Rattle.capacity.specs.declared.Search.{Search}
 use Rattle.answers.proofs.Laws.{Left, pass, refuse, told}
-use Rattle.bids.specs.declared.Entry.{Entry}
-use Rattle.bids.specs.Work.{isFull, Enters, JudgedBid}
-use Rattle.bids.proofs.Rights.{full-told, not-full}
+use Rattle.rights.specs.declared.Entry.{Entry}
+use Rattle.rights.specs.Work.{isFull, Enters}
+use Rattle.bids.specs.Work.{JudgedBid}
+use Rattle.rights.proofs.Rights.{full-told, not-full}
 use Rattle.bids.proofs.Verdicts.{bid-left, KnownBid, known-bid, access-is, session-known, verdictOf, shortage-is, judged}
 use borrow.Author.Needs.{needs}
 use Rattle.bids.proofs.bid_verdict.Statement.{statement}

@@ -1,9 +1,9 @@
--- `bids::right_there` meets its contract.
+-- `rights::right_there` meets its contract.
 -- Assumes nothing.
-use Rattle.bids.proofs.Rights.{right-read}
+use Rattle.rights.proofs.Reading.{right-read}
 use borrow.Author.Needs.{needs}
-use Rattle.bids.proofs.right_there.Statement.{statement}
-use Rattle.bids.proofs.right_there.Tie as tie
+use Rattle.rights.proofs.right_there.Statement.{statement}
+use Rattle.rights.proofs.right_there.Tie as tie
 
 returns : tie.Need-returns
 returns c =

@@ -1,10 +1,10 @@
--- `bids::same_right` meets its contract.
+-- `rights::same_right` meets its contract.
 -- Assumes nothing.
 use borrow.Author.Tests.{eq-eqb, ne-eqb}
 use Rattle.rules.specs.Bids.{isRightOf}
 use borrow.Author.Needs.{needs}
-use Rattle.bids.proofs.same_right.Statement.{statement}
-use Rattle.bids.proofs.same_right.Tie as tie
+use Rattle.rights.proofs.same_right.Statement.{statement}
+use Rattle.rights.proofs.same_right.Tie as tie
 
 returns : tie.Need-returns
 unfolding isRightOf

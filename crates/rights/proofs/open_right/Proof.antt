@@ -1,4 +1,4 @@
--- `bids::open_right` meets its contract.
+-- `rights::open_right` meets its contract.
 -- Assumes nothing.
 use mathlib.Core.Path.{_≡_}
 use Prim.Native.Nat.{ℕ}
@@ -10,8 +10,8 @@ use mathlib.Core.Path.{ap, _∙_}
 use Rattle.stores.specs.Stores.{withRow}
 use Rattle.stores.proofs.Stores.{five-mw}
 use borrow.Author.Needs.{needs}
-use Rattle.bids.proofs.open_right.Statement.{statement}
-use Rattle.bids.proofs.open_right.Tie as tie
+use Rattle.rights.proofs.open_right.Statement.{statement}
+use Rattle.rights.proofs.open_right.Tie as tie
 
 returns : tie.Need-returns
 returns c =

@@ -1,12 +1,12 @@
--- `bids::entry_of` meets its contract.
+-- `rights::entry_of` meets its contract.
 -- Assumes nothing.
 use mathlib.Core.Path.{sym, ap, _∙_}
 use borrow.Author.Tests.{lt-leb, le-leb}
 use Rattle.rules.specs.Book.{rightLimit}
-use Rattle.bids.specs.Work.{entryOf, entryIn}
+use Rattle.rights.specs.Work.{entryOf, entryIn}
 use borrow.Author.Needs.{needs}
-use Rattle.bids.proofs.entry_of.Statement.{statement}
-use Rattle.bids.proofs.entry_of.Tie as tie
+use Rattle.rights.proofs.entry_of.Statement.{statement}
+use Rattle.rights.proofs.entry_of.Tie as tie
 
 returns : tie.Need-returns
 unfolding entryIn

@@ -1,11 +1,11 @@
--- `bids::book_right` meets its contract.
+-- `rights::book_right` meets its contract.
 -- Assumes nothing.
 use mathlib.Core.Path.{sym, _∙_}
 use native.Mathlib.Omega.{arith}
-use Rattle.bids.proofs.Rights.{has-room, opened-books, below, raised-books}
+use Rattle.rights.proofs.Rights.{has-room, opened-books, below, raised-books}
 use borrow.Author.Needs.{needs}
-use Rattle.bids.proofs.book_right.Statement.{statement}
-use Rattle.bids.proofs.book_right.Tie as tie
+use Rattle.rights.proofs.book_right.Statement.{statement}
+use Rattle.rights.proofs.book_right.Tie as tie
 
 open-right-requires : tie.Need-open-right-requires
 open-right-requires c κs =

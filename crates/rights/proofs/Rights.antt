@@ -6,7 +6,6 @@ use mathlib.Core.Logic.{⊎-elim}
 use mathlib.Core.Bool.{Bool, true, false, cond, _||_, _&&_, not, true≢false}
 use mathlib.Core.List.{List, [], _∷_, _++_}
 use native.Mathlib.Omega.{arith}
-use native.Mathlib.Nat.{add-zero}
 use lib.Dec.{leb, ltb, eqb}
 use lib.ListN.{length, set}
 use borrow.Author.Tests.{leb-false}
@@ -15,11 +14,8 @@ use types.Run.{OneOf}
 use Rattle.rules.specs.Basics.{noMw}
 use Rattle.rules.specs.Book.{Right, rightLimit}
 use Rattle.rules.specs.Bids.{isRightOf, rightTaken, addedRight, withRight, rightFrom, rightNumber}
-use Rattle.rules.specs.declared.Session.{Session}
-use Rattle.rules.specs.declared.Answer.{Answer}
 use Rattle.cells.specs.Layout.{CELLS, RIGHTS}
-use Rattle.cells.specs.Loops.{rows}
-use Rattle.cells.specs.View.{cell, cellFrom, part, counted, rightAt, rightsIn, bookOf}
+use Rattle.cells.specs.View.{counted, rightAt, rightsIn, bookOf}
 use Rattle.stores.specs.Bids.{addedFive}
 use Rattle.cells.specs.Updates.{withRights}
 use Rattle.stores.proofs.Firsts.{placeOf, place-le, some-is, changed-there, changed-new, found-is, first-at, first-none, right-from, right-taken, raised, added-right}
@@ -28,10 +24,10 @@ use Rattle.stores.proofs.Raised.{right-raised, length-five}
 use Rattle.cells.proofs.Views.{right-count, right-at}
 use Rattle.cells.specs.declared.Found.{Found}
 use Rattle.cells.specs.declared.Found.the-variants.{At, Nothing}
-use Rattle.bids.specs.declared.Entry.{Entry}
-use Rattle.bids.specs.declared.Entry.the-variants.{Full, Room, Standing}
-use Rattle.bids.proofs.Entry.{the-type}
-use Rattle.bids.specs.Work.{standingRight, rightFor, entryOf, entryIn, isFull, Enters, NewRight, Booked, readOf}
+use Rattle.rights.specs.declared.Entry.{Entry}
+use Rattle.rights.specs.declared.Entry.the-variants.{Full, Room, Standing}
+use Rattle.rights.proofs.Entry.{the-type}
+use Rattle.rights.specs.Work.{standingRight, rightFor, entryOf, entryIn, isFull, Enters, NewRight, Booked}
 
 -- ---- the search
 
@@ -182,18 +178,3 @@ module _ (b : List ℕ) (model h d s : ℕ) (mw : List ℕ) where
               ∙ changed-there (isRightOf h d s) (raised mw) new (record { holder = 0; direction = 0; session = 0; mw = noMw }) (bookOf b .rights) (rw (← p) l)
               ∙ rw (← p) (ap (λ (x : Right). set (bookOf b .rights) i (raised mw x)) (right-at b i q)))));
         }
-
--- ---- the read of a right
-
-pub right-read : (b : List ℕ) (i h d : ℕ) (s : Session) (a : Answer) → h ≡ rightAt b i .holder → d ≡ rightAt b i .direction → s .0 ≡ rightAt b i .session
-    → let at : ℕ = RIGHTS + 4 + i * 8 in
-    record {
-      answer = a;
-      holder = h;
-      direction = d;
-      session = s;
-      mw = cell b at ∷ cell b (at + 1) ∷ cell b (at + 2) ∷ cell b (at + 3) ∷ cell b (at + 4) ∷ [];
-    }
-    ≡ readOf a (rightAt b i)
-unfolding rightAt part cellFrom rows
-right-read b i h d s a p q r = rw (p, q, ← r, add-zero (RIGHTS + 4 + i * 8))

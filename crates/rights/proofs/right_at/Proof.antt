@@ -1,10 +1,10 @@
--- `bids::right_at` meets its contract.
+-- `rights::right_at` meets its contract.
 -- Assumes nothing.
-use Rattle.bids.proofs.Tests.{right-unknown, right-known}
+use Rattle.rights.proofs.Reading.{right-unknown, right-known}
 use mathlib.Core.Path.{_∙_}
 use borrow.Author.Needs.{needs}
-use Rattle.bids.proofs.right_at.Statement.{statement}
-use Rattle.bids.proofs.right_at.Tie as tie
+use Rattle.rights.proofs.right_at.Statement.{statement}
+use Rattle.rights.proofs.right_at.Tie as tie
 
 returns : tie.Need-returns
 returns c = record { reply = right-unknown _ _ (rw (c .before .count-in .ensures) at (c .if1 .taken)) }

@@ -1,10 +1,10 @@
--- `bids::right_for` meets its contract.
+-- `rights::right_for` meets its contract.
 -- Assumes nothing.
 use borrow.Author.Tests.{eq-eqb, ne-eqb}
-use Rattle.bids.specs.Work.{rightFor}
+use Rattle.rights.specs.Work.{rightFor}
 use borrow.Author.Needs.{needs}
-use Rattle.bids.proofs.right_for.Statement.{statement}
-use Rattle.bids.proofs.right_for.Tie as tie
+use Rattle.rights.proofs.right_for.Statement.{statement}
+use Rattle.rights.proofs.right_for.Tie as tie
 
 returns : tie.Need-returns
 unfolding rightFor

@@ -1,10 +1,10 @@
--- `bids::right_by_entry` meets its contract.
+-- `rights::right_by_entry` meets its contract.
 -- Assumes nothing.
 use mathlib.Core.Path.{sym}
-use Rattle.bids.proofs.Rights.{entered-at}
+use Rattle.rights.proofs.Rights.{entered-at}
 use borrow.Author.Needs.{needs}
-use Rattle.bids.proofs.right_by_entry.Statement.{statement}
-use Rattle.bids.proofs.right_by_entry.Tie as tie
+use Rattle.rights.proofs.right_by_entry.Statement.{statement}
+use Rattle.rights.proofs.right_by_entry.Tie as tie
 
 returns-2 : tie.Need-returns-2
 returns-2 c = sym (entered-at (c .before .before .before .pre) _ (c .before .entry .given .1))

@@ -1,4 +1,4 @@
--- `bids::standing` meets its contract.
+-- `rights::standing` meets its contract.
 -- Assumes nothing.
 use mathlib.Core.Path.{_≡_, sym, _∙_}
 use Prim.Native.Nat.{_≤_, _+_, _-_}
@@ -11,9 +11,9 @@ use Rattle.cells.specs.Search.{tryRow, firstRow}
 use Rattle.cells.specs.declared.Found.the-variants.{Nothing}
 use Rattle.rules.specs.Bids.{isRightOf}
 use Rattle.cells.specs.View.{rightAt}
-use Rattle.bids.specs.Work.{standingRight}
-use Rattle.bids.proofs.standing.Statement.{statement}
-use Rattle.bids.proofs.standing.Tie as tie
+use Rattle.rights.specs.Work.{standingRight}
+use Rattle.rights.proofs.standing.Statement.{statement}
+use Rattle.rights.proofs.standing.Tie as tie
 
 abbrev Inv-loop : tie.InvT-loop
 Inv-loop book holder direction session count i₀ i =
