@@ -39,7 +39,7 @@ pub fn add_profile(book: &mut Book, map: u32) -> Answer
 pub fn add_party(book: &mut Book, code: [u8; 16], access: u8) -> Answer
     ensures { λ r. ⌜ Answers (now (book .entry)) (AddParty code access) r (now (book .exit)) ⌝ }
 {
-    setup::add_party(book, code, access)
+    parties::add_party(book, code, access)
 }
 
 // ---- offers

@@ -1,5 +1,4 @@
 pub mod Opening
 pub mod Searches
 pub mod Bits
-pub mod Copies
 pub mod Adding

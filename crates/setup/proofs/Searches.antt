@@ -1,23 +1,17 @@
--- The tests for an entry that is taken, as the rules say them over a list and as a loop finds them over the cells.
+-- The test for an entry that is taken, as the rules say it over a list and as a loop finds it over the cells.
 -- Assumes nothing.
-use Prim.Native.Nat.{ℕ, zero, suc, _+_, _-_, _*_, _≤_, _<_}
+use Prim.Native.Nat.{ℕ, zero, suc, _+_, _-_, _≤_, _<_}
 use mathlib.Core.Path.{_≡_, refl, sym, ap, _∙_}
-use mathlib.Core.Bool.{Bool, true, false, _||_, _&&_}
+use mathlib.Core.Bool.{Bool, true, false, _||_}
 use mathlib.Core.List.{List, [], _∷_}
-use native.Mathlib.Omega.{arith}
-use native.Mathlib.Numerals.{add-one}
-use lib.Dec.{eqb}
-use lib.ListN.{length, getD, drop, drop-of-length-le}
-use lib.Seq.{drop-cons}
-use Rattle.rules.specs.Basics.{same}
-use Rattle.rules.specs.Book.{directionLimit, partyLimit}
-use Rattle.rules.specs.Setup.{directionTaken, codeTaken}
+use Rattle.rules.specs.Book.{directionLimit}
+use Rattle.rules.specs.Setup.{directionTaken}
 use Rattle.cells.specs.Loops.{each, rows}
-use Rattle.cells.specs.Layout.{DIRECTIONS, PARTIES}
-use Rattle.cells.specs.View.{cell, cellFrom, part, bookOf, counted, directionAt, directionsIn, partyAt, partiesIn}
+use Rattle.cells.specs.Layout.{DIRECTIONS}
+use Rattle.cells.specs.View.{bookOf, counted, directionAt, directionsIn}
 use Rattle.cells.proofs.Turns.{each-next, each-done}
 use Rattle.answers.proofs.Laws.{told-or, told-next}
-use Rattle.setup.specs.Work.{clashes, sameCode}
+use Rattle.setup.specs.Work.{clashes}
 
 -- ---- an entry of a table
 
@@ -27,7 +21,7 @@ module _ {A : Type 0} (t : A → Bool) (f : ℕ → A) where
   tryRow k rest = t (f k) || rest
 
   -- a rule that asks whether one of a list passes the test
-  taken-each : (taken : List A → Bool) → taken [] ≡ false → ((x : A) (xs : List A) → taken (x ∷ xs) ≡ (t x || taken xs))
+  pub taken-each : (taken : List A → Bool) → taken [] ≡ false → ((x : A) (xs : List A) → taken (x ∷ xs) ≡ (t x || taken xs))
       → (n k : ℕ) → taken (rows f n k) ≡ each tryRow n k false
   unfolding rows each tryRow
   taken-each taken none one zero k = none
@@ -49,26 +43,3 @@ module _ {A : Type 0} (t : A → Bool) (f : ℕ → A) where
 pub direction-search : (b : List ℕ) (o i m : ℕ) → directionTaken o i m (bookOf b .directions) ≡ each (tryRow (clashes o i m) (directionAt b)) (counted b DIRECTIONS directionLimit) 0 false
 unfolding bookOf directionsIn directionTaken clashes
 direction-search b o i m = taken-each (clashes o i m) (directionAt b) (directionTaken o i m) refl (λ x xs. refl) (counted b DIRECTIONS directionLimit) 0
-
-pub party-search : (b code : List ℕ) → codeTaken code (bookOf b .parties) ≡ each (tryRow (sameCode code) (partyAt b)) (counted b PARTIES partyLimit) 0 false
-unfolding bookOf partiesIn codeTaken
-party-search b code = taken-each (sameCode code) (partyAt b) (codeTaken code) refl (λ x xs. refl) (counted b PARTIES partyLimit) 0
-
--- ---- a byte of a code
-
-module _ (b : List ℕ) (at : ℕ) (code : List ℕ) where
-  unfoldable pub tryByte : ℕ → Bool → Bool
-  tryByte k rest = eqb (cell b (at + k)) (getD code k 0) && rest
-
-  same-each : (n k : ℕ) → length code ≡ k + n → same (rows (cellFrom b at) n k) (drop k code) ≡ each tryByte n k true
-  unfolding rows each same tryByte cellFrom
-  same-each zero k size =
-      let all : length code ≤ k = omega arith in
-      rw (drop-of-length-le code {i = k} all)
-  same-each (suc n) k size =
-      let inside : k < length code = omega arith in
-      rw (drop-cons code k 0 inside, ← add-one k) (ap (λ (x : Bool). eqb (cell b (at + k)) (getD code k 0) && x) (same-each n (k + 1) (omega arith)))
-
-pub code-search : (b code : List ℕ) (p : ℕ) → length code ≡ 16 → sameCode code (partyAt b p) ≡ each (tryByte b (PARTIES + 1 + p * 17) code) 16 0 true
-unfolding partyAt part
-code-search b code p size = same-each b (PARTIES + 1 + p * 17) code 16 0 size

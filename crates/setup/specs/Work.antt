@@ -5,8 +5,7 @@ use mathlib.Core.Path.{_≡_}
 use mathlib.Core.Bool.{Bool, _||_, _&&_, not}
 use mathlib.Core.List.{List}
 use lib.Dec.{eqb}
-use Rattle.rules.specs.Basics.{same}
-use Rattle.rules.specs.Book.{Direction, Party}
+use Rattle.rules.specs.Book.{Direction}
 use Rattle.cells.specs.View.{Cells, counted}
 use Rattle.stores.specs.Stores.{withRow}
 
@@ -22,6 +21,3 @@ sameOperators x o i = eqb (x .out) o && eqb (x .into) i
 
 unfoldable pub clashes : ℕ → ℕ → ℕ → Direction → Bool
 clashes o i m x = sameOperators x o i || (sameOperators x i o && not (eqb (x .model) m))
-
-abbrev pub sameCode : List ℕ → Party → Bool
-sameCode code x = same (x .code) code

@@ -1,23 +1,21 @@
-// Set-up: the opening of a day, and directions, profiles and parties. Each promise is an equation with the rules, whatever the cells hold.
+// Set-up: the opening of a day, directions, profiles, and what every addition shares. Each promise is an equation with the rules, whatever the cells hold.
 use answers::Verdict;
 use cells::Book;
 use rules::Answer;
 ghost use mathlib.Core.Path.{_≡_};
 ghost use mathlib.Core.Bool.{_||_, not};
-ghost use mathlib.Core.List.{[], _∷_, _++_};
 ghost use Prim.Native.Nat.{_+_, _*_, _^_, _<_, _≤_};
 ghost use lib.Dec.{ltb, leb, eqb};
 ghost use lib.ListN.{length};
 ghost use lib.Count.{ones};
-ghost use Rattle.rules.specs.Calls.{AddDirection, AddProfile, AddParty};
-ghost use Rattle.rules.specs.Codes.{isCode};
-ghost use Rattle.rules.specs.Book.{directionLimit, partyLimit, profileLimit};
-ghost use Rattle.rules.specs.Setup.{directionTaken, codeTaken};
+ghost use Rattle.rules.specs.Calls.{AddDirection, AddProfile};
+ghost use Rattle.rules.specs.Book.{directionLimit, profileLimit};
+ghost use Rattle.rules.specs.Setup.{directionTaken};
 ghost use Rattle.rules.specs.Opening.{dayRefused};
 ghost use Rattle.cells.specs.Layout.{CELLS};
-ghost use Rattle.cells.specs.View.{bookOf, counted, directionAt, partyAt};
+ghost use Rattle.cells.specs.View.{bookOf, counted, directionAt};
 ghost use Rattle.answers.specs.Promises.{Judged, Opens, Answers};
-ghost use Rattle.setup.specs.Work.{Entered, sameOperators, clashes, sameCode};
+ghost use Rattle.setup.specs.Work.{Entered, sameOperators, clashes};
 
 // ---- the day
 fn day_refused(hours: u8, weekday: u8) -> bool
@@ -52,14 +50,14 @@ pub fn open_day(book: &mut Book, hours: u8, weekday: u8) -> Answer
 }
 
 // ---- what the additions share
-fn setup_shut(book: &Book) -> bool
+pub fn setup_shut(book: &Book) -> bool
     ensures { λ r. ⌜ r ≡ bookOf (now (book .entry)) .started ⌝ }
 {
     cells::is_started(book)
 }
 
 // A row more in a table that has room: its number.
-fn place_row(book: &mut Book, table: usize, limit: u32, row: &[u32]) -> u32
+pub fn place_row(book: &mut Book, table: usize, limit: u32, row: &[u32]) -> u32
     requires { ⌜ ((1 ≤ length (now row)) × (length (now row) ≤ 17)) × ((limit ≤ CELLS) × (table + 1 + limit * length (now row) ≤ CELLS)) × (counted (now book) table limit < limit) ⌝ }
     ensures { λ r. ⌜ Entered (now (book .entry)) table limit (now (row .entry)) r (now (book .exit)) ⌝ }
 {
@@ -208,93 +206,6 @@ pub fn add_profile(book: &mut Book, map: u32) -> Answer
         Verdict::Clear => {
             let row = [map];
             Answer::Granted(place_row(book, cells::PROFILES, cells::PROFILE_LIMIT, &row))
-        }
-    }
-}
-
-// ---- parties
-fn party_field(code: [u8; 16], access: u8) -> bool
-    ensures { λ r. ⌜ r ≡ (eqb access 0 || ltb 127 access || not (isCode code)) ⌝ }
-{
-    if access == 0 {
-        return true;
-    }
-    if access > 127 {
-        return true;
-    }
-    !eic::is_party_code(code)
-}
-
-fn same_code(book: &Book, party: u32, code: [u8; 16]) -> bool
-    requires { ⌜ party < partyLimit ⌝ }
-    ensures { λ r. ⌜ r ≡ sameCode code (partyAt (now (book .entry)) party) ⌝ }
-{
-    let at = cells::PARTIES + 1 + party as usize * 17;
-    for k in 0..16 {
-        if book[at + k] != code[k] as u32 {
-            return false;
-        }
-    }
-    true
-}
-
-fn code_taken(book: &Book, code: [u8; 16]) -> bool
-    ensures { λ r. ⌜ r ≡ codeTaken code (bookOf (now (book .entry)) .parties) ⌝ }
-{
-    let count = cells::count_in(book, cells::PARTIES, cells::PARTY_LIMIT);
-    for k in 0..count {
-        if same_code(book, k, code) {
-            return true;
-        }
-    }
-    false
-}
-
-fn parties_full(book: &Book) -> bool
-    ensures { λ r. ⌜ r ≡ leb partyLimit (length (bookOf (now (book .entry)) .parties)) ⌝ }
-{
-    cells::PARTY_LIMIT <= cells::count_in(book, cells::PARTIES, cells::PARTY_LIMIT)
-}
-
-fn party_verdict(book: &Book, code: [u8; 16], access: u8) -> Verdict
-    ensures { λ r. ⌜ Judged (bookOf (now (book .entry))) (AddParty code access) r ⌝ }
-{
-    if party_field(code, access) {
-        return Verdict::No(Answer::Field);
-    }
-    if setup_shut(book) {
-        return Verdict::No(Answer::SetupShut);
-    }
-    if code_taken(book, code) {
-        return Verdict::No(Answer::Taken);
-    }
-    if parties_full(book) {
-        return Verdict::No(Answer::Full);
-    }
-    Verdict::Clear
-}
-
-// The cells of a party: its code and its access map.
-fn party_row(code: [u8; 16], access: u8) -> [u32; 17]
-    ensures { λ r. ⌜ r ≡ code ++ (access ∷ []) ⌝ }
-{
-    let mut row = [0u32; 17];
-    for k in 0..16 {
-        row[k] = code[k] as u32;
-    }
-    row[16] = access as u32;
-    row
-}
-
-pub fn add_party(book: &mut Book, code: [u8; 16], access: u8) -> Answer
-    ensures { λ r. ⌜ Answers (now (book .entry)) (AddParty code access) r (now (book .exit)) ⌝ }
-{
-    let verdict = party_verdict(book, code, access);
-    match verdict {
-        Verdict::No(answer) => answer,
-        Verdict::Clear => {
-            let row = party_row(code, access);
-            Answer::Granted(place_row(book, cells::PARTIES, cells::PARTY_LIMIT, &row))
         }
     }
 }

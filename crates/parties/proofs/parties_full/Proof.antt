@@ -1,9 +1,9 @@
--- `setup::parties_full` meets its contract.
+-- `parties::parties_full` meets its contract.
 -- Assumes nothing.
 use Rattle.cells.proofs.Views.{party-count}
 use borrow.Author.Needs.{needs}
-use Rattle.setup.proofs.parties_full.Statement.{statement}
-use Rattle.setup.proofs.parties_full.Tie as tie
+use Rattle.parties.proofs.parties_full.Statement.{statement}
+use Rattle.parties.proofs.parties_full.Tie as tie
 
 returns : tie.Need-returns
 returns c = rw (c .count-in .ensures, party-count _)

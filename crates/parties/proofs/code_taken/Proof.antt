@@ -1,4 +1,4 @@
--- `setup::code_taken` meets its contract. The loop's invariant: the search from here on gives the answer.
+-- `parties::code_taken` meets its contract. The loop's invariant: the search from here on gives the answer.
 -- Assumes nothing.
 use mathlib.Core.Path.{_≡_, _∙_}
 use mathlib.Core.Bool.{false}
@@ -10,10 +10,11 @@ use Rattle.rules.specs.Setup.{codeTaken}
 use Rattle.cells.specs.Loops.{each}
 use Rattle.cells.specs.View.{bookOf, partyAt}
 use Rattle.cells.proofs.Turns.{each-start}
-use Rattle.setup.specs.Work.{sameCode}
-use Rattle.setup.proofs.Searches.{tryRow, found, not-found, none-found, party-search}
-use Rattle.setup.proofs.code_taken.Statement.{statement}
-use Rattle.setup.proofs.code_taken.Tie as tie
+use Rattle.parties.specs.Work.{sameCode}
+use Rattle.setup.proofs.Searches.{tryRow, found, not-found, none-found}
+use Rattle.parties.proofs.Searches.{party-search}
+use Rattle.parties.proofs.code_taken.Statement.{statement}
+use Rattle.parties.proofs.code_taken.Tie as tie
 
 abbrev Inv-loop : tie.InvT-loop
 Inv-loop book code count k₀ k = ((k ≤ count) × (count ≤ partyLimit)) × (codeTaken code (bookOf book .parties) ≡ each (tryRow (sameCode code) (partyAt book)) (count - k) k false)

@@ -1,13 +1,13 @@
--- `setup::party_row` meets its contract. The loop's invariant: the first cells are those of the code.
+-- `parties::party_row` meets its contract. The loop's invariant: the first cells are those of the code.
 -- Assumes nothing.
 use mathlib.Core.Path.{_≡_, refl}
 use Prim.Native.Nat.{_-_, _≤_, _<_}
 use native.Mathlib.Omega.{arith}
 use borrow.Author.Needs.{needs}
 use lib.ListN.{length, take, length-set}
-use Rattle.setup.proofs.Copies.{copied-next, copied}
-use Rattle.setup.proofs.party_row.Statement.{statement}
-use Rattle.setup.proofs.party_row.Tie as tie
+use Rattle.parties.proofs.Copies.{copied-next, copied}
+use Rattle.parties.proofs.party_row.Statement.{statement}
+use Rattle.parties.proofs.party_row.Tie as tie
 
 abbrev Inv-loop : tie.InvT-loop
 Inv-loop access code row₀ k₀ row k = ((k ≤ 16) × (length code ≡ 16) × (length row ≡ 17)) × (take k row ≡ take k code)

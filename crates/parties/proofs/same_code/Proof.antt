@@ -1,4 +1,4 @@
--- `setup::same_code` meets its contract. The loop's invariant: the comparison from here on gives the answer.
+-- `parties::same_code` meets its contract. The loop's invariant: the comparison from here on gives the answer.
 -- Assumes nothing.
 use mathlib.Core.Path.{_≡_, sym, _∙_}
 use mathlib.Core.Bool.{true}
@@ -11,10 +11,10 @@ use Rattle.cells.specs.Layout.{PARTIES}
 use Rattle.cells.specs.Loops.{each}
 use Rattle.cells.specs.View.{partyAt}
 use Rattle.cells.proofs.Turns.{each-next, each-done}
-use Rattle.setup.specs.Work.{sameCode}
-use Rattle.setup.proofs.Searches.{tryByte, code-search}
-use Rattle.setup.proofs.same_code.Statement.{statement}
-use Rattle.setup.proofs.same_code.Tie as tie
+use Rattle.parties.specs.Work.{sameCode}
+use Rattle.parties.proofs.Searches.{tryByte, code-search}
+use Rattle.parties.proofs.same_code.Statement.{statement}
+use Rattle.parties.proofs.same_code.Tie as tie
 
 abbrev Inv-loop : tie.InvT-loop
 Inv-loop book party code at k₀ k =

@@ -1,9 +1,9 @@
--- `setup::party_field` meets its contract: each return by the tests that led to it.
+-- `parties::party_field` meets its contract: each return by the tests that led to it.
 -- Assumes nothing.
 use borrow.Author.Tests.{lt-ltb, le-ltb, eq-eqb, ne-eqb}
 use borrow.Author.Needs.{needs}
-use Rattle.setup.proofs.party_field.Statement.{statement}
-use Rattle.setup.proofs.party_field.Tie as tie
+use Rattle.parties.proofs.party_field.Statement.{statement}
+use Rattle.parties.proofs.party_field.Tie as tie
 
 returns : tie.Need-returns
 returns c = rw (eq-eqb _ 0 (c .if1 .taken))

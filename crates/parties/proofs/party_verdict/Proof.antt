@@ -1,4 +1,4 @@
--- `setup::party_verdict` meets its contract: test by test, what is left to test.
+-- `parties::party_verdict` meets its contract: test by test, what is left to test.
 -- Assumes nothing.
 use Prim.Native.Nat.{ℕ}
 use mathlib.Core.Path.{refl}
@@ -10,10 +10,10 @@ use Rattle.rules.specs.Details.{refusal}
 use Rattle.rules.specs.declared.Answer.the-variants.{Field, SetupShut, Taken, Full}
 use Rattle.cells.specs.View.{bookOf}
 use Rattle.answers.proofs.Laws.{Left, pass, refuse, none-left, told}
 use Rattle.setup.proofs.Adding.{lefts}
 use borrow.Author.Needs.{needs}
-use Rattle.setup.proofs.party_verdict.Statement.{statement}
-use Rattle.setup.proofs.party_verdict.Tie as tie
+use Rattle.parties.proofs.party_verdict.Statement.{statement}
+use Rattle.parties.proofs.party_verdict.Tie as tie
 
 -- the numbers that are left to test
 abbrev To : tie.Start → List ℕ → Type 0

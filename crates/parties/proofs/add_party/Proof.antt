@@ -1,12 +1,12 @@
--- `setup::add_party` meets its contract.
+-- `parties::add_party` meets its contract.
 -- Assumes nothing.
 use mathlib.Core.Path.{_≡_}
 use native.Mathlib.Omega.{arith}
 use lib.ListN.{length}
 use Rattle.setup.proofs.Adding.{answers-no, adds-party, room, answers-number}
 use borrow.Author.Needs.{needs}
-use Rattle.setup.proofs.add_party.Statement.{statement}
-use Rattle.setup.proofs.add_party.Tie as tie
+use Rattle.parties.proofs.add_party.Statement.{statement}
+use Rattle.parties.proofs.add_party.Tie as tie
 
 place-row-requires : tie.Need-place-row-requires
 place-row-requires c κs =
