@@ -3,7 +3,7 @@ ghost use mathlib.Core.Path.{_≡_};
 ghost use Prim.Native.Nat.{_-_, _<_, _≤_};
 ghost use lib.ListN.{length};
 ghost use Rattle.cells.specs.View.{bookOf};
-ghost use Rattle.stream.specs.Records.{startBook};
+ghost use Rattle.dayrun_records.specs.Records.{startBook};
 ghost use Rattle.dayrun_settled.specs.Settled.{longest};
 ghost use Rattle.stream.specs.Running.{textSize, Fits, nextIn};
 ghost use Rattle.dayrun_loop.specs.Steps.{Wrote, ReadsMore, stateOf, Steps, Goes, Loops, Answered};
@@ -83,6 +83,6 @@ pub fn answer_input() -> bool
     ensures { λ r. ⌜ Answered r ⌝ }
 {
     let mut book = [0u32; cells::CELLS];
-    stream::open_book(&mut book);
+    dayrun_records::open_book(&mut book);
     answer_all(&mut book)
 }

@@ -12,9 +12,9 @@ use Rattle.rules.specs.Said.{said, saidNumbers}
 use Rattle.rules.specs.declared.ReplyNumbers.{ReplyNumbers}
 use Rattle.cells.specs.View.{bookOf}
 use Rattle.lines.specs.Text.{lineOf, Put}
-use Rattle.stream.specs.declared.Taken.{Taken}
+use Rattle.dayrun_records.specs.declared.Taken.{Taken}
 use Rattle.stream.specs.declared.Progress.{Progress}
-use Rattle.stream.specs.Records.{atFront, Takes}
+use Rattle.dayrun_records.specs.Records.{atFront, Takes}
 use Rattle.stream.specs.Running.{unread, textSize, lineSize, Fits, AnswersNext}
 
 -- a text stored behind those collected

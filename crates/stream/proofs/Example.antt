@@ -17,7 +17,7 @@ use Rattle.rules.specs.Run.{applied, run}
 use Rattle.rules.specs.Opening.{dayRefused, openingRefuses, dayHours, dayWeekday, opening}
 use Rattle.rules.specs.Records.{widths, callOf, kinds, stands, standing, numberAt, fieldsAt, endAt, fieldsIn, endIn, readerRefuses, reading}
 use Rattle.lines.specs.Text.{digitsOf, lineOf}
-use Rattle.stream.specs.Records.{startCalls, startBook, callMade, atFront}
+use Rattle.dayrun_records.specs.Records.{startCalls, startBook, callMade, atFront}
 use Rattle.stream.specs.Input.{answerable, linesIn, printed}
 use Rattle.stream.specs.Running.{ExamplePrinted, ExampleWritten}
 use Rattle.stream.proofs.Running.{writes-all}

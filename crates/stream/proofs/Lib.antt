@@ -1,6 +1,3 @@
-pub mod Opening
-pub mod Made
-pub mod Taking
 pub mod Nexts
 pub mod Running
 pub mod Answering

@@ -17,11 +17,11 @@ use Rattle.cells.specs.View.{bookOf}
 use Rattle.lines.specs.Text.{lineOf}
 use Rattle.stream.specs.declared.Progress.{Progress}
 use Rattle.stream.specs.declared.Next.the-variants.{Take, Write, Read}
-use Rattle.stream.specs.Records.{Outcome, startBook, atFront}
+use Rattle.dayrun_records.specs.Records.{Outcome, startBook, atFront}
 use Rattle.dayrun_settled.specs.Settled.{Bytes}
 use Rattle.stream.specs.Input.{answerable, following, linesIn, linesOf}
 use Rattle.stream.specs.Running.{unread, collected, answeredProgress, AnswersNext, wroteProgress, Fronted, receivedProgress, State, nextIn, Reaches, begins, answers, writes, reads, WritesAll, WritesAtOnce, WaitsWhereOpen}
-use Rattle.stream.proofs.Taking.{front-read, front-refused}
+use Rattle.dayrun_records.proofs.Taking.{front-read, front-refused}
 use Rattle.dayrun_settled.proofs.Patterns.{nothing-open}
 use Rattle.dayrun_settled.proofs.Front.{end-least}
 use Rattle.dayrun_settled.proofs.Settled.{settled-stays, unsettled-open, settled-more}

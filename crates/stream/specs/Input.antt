@@ -8,7 +8,7 @@ use lib.ListN.{length, drop}
 use Rattle.rules.specs.Book.{Book}
 use Rattle.dayrun_settled.specs.Settled.{settled}
 use Rattle.lines.specs.Text.{lineOf}
-use Rattle.stream.specs.Records.{atFront}
+use Rattle.dayrun_records.specs.Records.{atFront}
 
 -- once the input has ended, any bytes that are left are answered; before, a record that is settled
 unfoldable pub answerable : Bool → List ℕ → Bool

@@ -1,3 +1,2 @@
-pub mod Records
 pub mod Input
 pub mod Running

@@ -11,7 +11,7 @@ use Rattle.lines.specs.Text.{lineOf}
 use Rattle.stream.specs.declared.Progress.{Progress}
 use Rattle.stream.specs.declared.Next.{Next}
 use Rattle.stream.specs.declared.Next.the-variants.{Take, Write, Read, End}
-use Rattle.stream.specs.Records.{Outcome, startBook, atFront}
+use Rattle.dayrun_records.specs.Records.{Outcome, startBook, atFront}
 use Rattle.dayrun_settled.specs.Settled.{Bytes, Open}
 use Rattle.stream.specs.Input.{answerable, following, linesOf, printed}
 

@@ -1,26 +1,16 @@
-// Call records on a book, as they arrive: the call of a record, and the steps of the program `dayrun`.
+// The steps of the program `dayrun`: call records on a book, as they arrive.
 ghost use mathlib.Core.Path.{_≡_};
 ghost use mathlib.Core.Bool.{_&&_, not};
 ghost use Prim.Native.Nat.{_+_, _-_, _^_, _<_, _≤_};
 ghost use lib.Dec.{leb};
 ghost use lib.ListN.{length};
-ghost use Rattle.cells.specs.View.{bookOf};
-ghost use Rattle.stream.specs.Records.{startBook, AnswersRecord, Takes};
 ghost use Rattle.dayrun_settled.specs.Settled.{longest};
 ghost use Rattle.stream.specs.Input.{answerable};
 ghost use Rattle.stream.specs.Running.{textSize, lineSize, unread, Fits, ready, nextOf, startProgress, AnswersNext, wroteProgress, Fronted, receivedProgress};
 use cells::Book;
-use rules::Answer;
-use rules::CallRecord;
 
 // How many bytes of lines are collected at most.
 pub const TEXT: usize = 4096;
-
-// The answer to the record at the front of bytes, and the record's length; 0 where it can't be read.
-struct Taken {
-    answer: Answer,
-    length: usize,
-}
 
 // The unread bytes stand in the input's buffer from `from` up to `to`, the collected lines in the first `filled` bytes of the text.
 // The position is that of the next record.
@@ -40,55 +30,6 @@ pub enum Next {
     Read,
     End,
 }
-
-// ---- records
-
-// A Monday of 24 hours with direction 0 and party 0.
-pub fn open_book(book: &mut Book)
-    ensures { λ r. ⌜ bookOf (now (book .exit)) ≡ startBook ⌝ }
-{
-    daybook::open_day(book, 24, 1);
-    daybook::add_direction(book, 0, 4, 1);
-    daybook::add_party(book, *b"10XCZ-CEPS-GRIDE", 1);
-}
-
-// Makes the call of a record. A record of no kind is refused.
-fn answer_record(book: &mut Book, call: CallRecord) -> Answer
-    ensures { λ r. ⌜ AnswersRecord (now (book .entry)) call r (now (book .exit)) ⌝ }
-{
-    let kind = call.kind;
-    let time = call.time as u32;
-    let mw = call.mw;
-    match kind {
-        1 => daybook::offer_direction(book, time, call.direction, call.hour, mw[0]),
-        2 => daybook::offer_profile(book, time, call.profile, call.hour, mw[0]),
-        3 => daybook::bid(book, time, call.party, call.direction, call.session, mw),
-        4 => daybook::nominate(
-            book,
-            time,
-            call.party,
-            call.other,
-            call.right,
-            call.side,
-            mw,
-        ),
-        5 => daybook::match_session(book, time, call.direction, call.session),
-        _ => Answer::Record,
-    }
-}
-
-// Reads the record at the front of the bytes, and makes its call. The reader gives no kind where it refuses.
-fn take_record(book: &mut Book, bytes: &[u8]) -> Taken
-    ensures { λ r. ⌜ Takes (now (book .entry)) (now (bytes .entry)) r (now (book .exit)) ⌝ }
-{
-    let read = record::read(bytes);
-    Taken {
-        answer: answer_record(book, read.call),
-        length: read.length,
-    }
-}
-
-// ---- the program's steps
 
 // Nothing is read yet, and the first position is 1.
 pub fn start() -> Progress
@@ -165,7 +106,7 @@ pub fn answer_next(book: &mut Book, buffer: &[u8], progress: Progress, text: &mu
 {
     let from = progress.from;
     let to = progress.to;
-    let taken = take_record(book, &buffer[from..to]);
+    let taken = dayrun_records::take_record(book, &buffer[from..to]);
     let answer = taken.answer;
     let reply = daybook::numbers(answer);
     let filled = lines::write_line(text, progress.filled, progress.position, reply);

@@ -1,11 +1,11 @@
--- `stream::answer_record` meets its contract.
+-- `dayrun_records::answer_record` meets its contract.
 -- Assumes nothing.
 use mathlib.Core.Path.{refl}
 use native.Mathlib.Omega.{arith}
 use borrow.Author.Needs.{needs}
-use Rattle.stream.proofs.Made.{answered, unanswered, made-1, made-2, made-3, made-4, made-5}
-use Rattle.stream.proofs.answer_record.Statement.{statement}
-use Rattle.stream.proofs.answer_record.Tie as tie
+use Rattle.dayrun_records.proofs.Made.{answered, unanswered, made-1, made-2, made-3, made-4, made-5}
+use Rattle.dayrun_records.proofs.answer_record.Statement.{statement}
+use Rattle.dayrun_records.proofs.answer_record.Tie as tie
 
 returns : tie.Need-returns
 returns c = answered 1 (omega arith) refl (made-1 _ (omega arith)) (c .offer-direction .ensures)

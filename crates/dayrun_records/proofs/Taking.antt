@@ -17,7 +17,7 @@ use Rattle.rules.proofs.Records.{readable, reading-by}
 use Rattle.cells.specs.View.{bookOf}
 use Rattle.record.specs.declared.RecordRead.{RecordRead}
 use Rattle.record.specs.Promises.{Reads}
-use Rattle.stream.specs.Records.{callMade, AnswersRecord, atFront, Takes}
+use Rattle.dayrun_records.specs.Records.{callMade, AnswersRecord, atFront, Takes}
 
 pub front-read : (b : Book) (s : List ℕ) → reading s .reply .number ≡ 0
     → atFront b s ≡ record { reply = applied b (callMade (reading s .call)) .reply; book = applied b (callMade (reading s .call)) .book; length = reading s .length }

@@ -1,9 +1,9 @@
--- `stream::take_record` meets its contract.
+-- `dayrun_records::take_record` meets its contract.
 -- Assumes nothing.
 use borrow.Author.Needs.{needs}
-use Rattle.stream.proofs.Taking.{takes}
-use Rattle.stream.proofs.take_record.Statement.{statement}
-use Rattle.stream.proofs.take_record.Tie as tie
+use Rattle.dayrun_records.proofs.Taking.{takes}
+use Rattle.dayrun_records.proofs.take_record.Statement.{statement}
+use Rattle.dayrun_records.proofs.take_record.Tie as tie
 
 returns : tie.Need-returns
 returns c = takes _ _ (c .before .before .read .result) _ _ (c .before .before .read .ensures) (c .answer-record .ensures)

@@ -15,7 +15,7 @@ use Rattle.rules.specs.declared.Answer.the-variants.{Record}
 use Rattle.rules.specs.declared.CallRecord.{CallRecord}
 use Rattle.rules.proofs.Bools.{and-left, and-right}
 use Rattle.answers.specs.Promises.{Answers}
-use Rattle.stream.specs.Records.{callMade, AnswersRecord}
+use Rattle.dayrun_records.specs.Records.{callMade, AnswersRecord}
 
 pub answered : {b b′ : List ℕ} {c : CallRecord} {r : Answer} {call : Call} (k : ℕ) → c .kind ≡ k → isKind k ≡ true → callMade c ≡ call → Answers b call r b′
     → AnswersRecord b c r b′

@@ -1,9 +1,9 @@
--- `stream::open_book` meets its contract.
+-- `dayrun_records::open_book` meets its contract.
 -- Assumes nothing.
 use borrow.Author.Needs.{needs}
-use Rattle.stream.proofs.Opening.{started}
-use Rattle.stream.proofs.open_book.Statement.{statement}
-use Rattle.stream.proofs.open_book.Tie as tie
+use Rattle.dayrun_records.proofs.Opening.{started}
+use Rattle.dayrun_records.proofs.open_book.Statement.{statement}
+use Rattle.dayrun_records.proofs.open_book.Tie as tie
 
 returns : tie.Need-returns
 returns c =

@@ -17,7 +17,7 @@ use Rattle.rules.specs.declared.Answer.the-variants.{Record}
 use Rattle.rules.specs.declared.CallRecord.{CallRecord}
 use Rattle.cells.specs.View.{bookOf}
 use Rattle.answers.specs.Promises.{Answers}
-use Rattle.stream.specs.declared.Taken.{Taken}
+use Rattle.dayrun_records.specs.declared.Taken.{Taken}
 
 -- ---- the book that the program starts with
 
