@@ -1,14 +1,15 @@
 -- The sums and the marks that the code makes are those of the rules.
 -- Assumes nothing.
-use Prim.Native.Nat.{ℕ, zero, suc, _+_, _-_, _*_, _≤_, _<_}
+use Prim.Native.Nat.{ℕ, zero, suc, _+_, _-_, _*_, _^_, _≤_, _<_}
 use mathlib.Core.Path.{_≡_, refl, sym, ap, _∙_}
 use mathlib.Core.Logic.{_≢_}
 use mathlib.Core.Bool.{Bool, true, false, cond}
-use mathlib.Core.List.{List, [], _∷_}
+use mathlib.Core.List.{List}
 use native.Mathlib.Omega.{arith}
-use native.Mathlib.Nat.{add-zero, zero-add}
+use native.Mathlib.Nat.{add-zero, zero-add, pow-suc}
 use lib.Dec.{ltb, eqb}
-use lib.ListN.{getD}
+use lib.ListN.{length, set, getD, length-set}
+use lib.Seq.{getD-set-same, getD-set-other}
 use borrow.Author.Tests.{eqb-true, eqb-false, eq-eqb, ne-eqb, lt-ltb, le-ltb}
 use Rattle.rules.specs.Basics.{noMw, mapOf}
 use Rattle.rules.specs.Book.{Right, right, pairLimit, rightLimit}
@@ -46,9 +47,11 @@ in-five P p q r s t (suc (suc (suc zero))) l = s
 in-five P p q r s t (suc (suc (suc (suc zero)))) l = t
 in-five P p q r s t (suc (suc (suc (suc (suc n))))) l = absurd (omega arith)
 
--- the MW of pair k in an hour, a number of 32 bits
-abbrev Share : List ℕ → ℕ → ℕ → ℕ → ℕ → Type 0
-Share b k side hour x = (x ≡ getD (sideOf side (pairAt b k)) hour 0) × (x ≤ 4294967295)
+-- pair k is added in the first n hours
+pub record AddedTo (b : List ℕ) (k r side : ℕ) (totals : List ℕ) (n : ℕ) (sums : List ℕ) : Type 0 where
+  pub size : length sums ≡ 5
+  pub same : (hour : ℕ) → hour < n → getD sums hour 0 ≡ getD totals hour 0 + shareOf r side hour (pairAt b k)
+  pub most : (hour : ℕ) → hour < n → getD sums hour 0 ≤ (k + 1) * 4294967295
 
 module _ (b : List ℕ) (k r side : ℕ) (totals : List ℕ) (u : Bounded k totals) where
   -- of another right
@@ -60,20 +63,39 @@ module _ (b : List ℕ) (k r side : ℕ) (totals : List ℕ) (u : Bounded k tota
         bounded = λ hour l. omega (arith, u hour l);
       }
 
-  -- of the right
-  module _ (e : cell b (PAIRS + 1 + k * 13) ≡ r) where
-    one-added : (hour x : ℕ) → hour < 5 → Share b k side hour x
-        → (getD totals hour 0 + x ≡ getD totals hour 0 + shareOf r side hour (pairAt b k)) × (getD totals hour 0 + x ≤ (k + 1) * 4294967295)
-    unfolding shareOf pairAt
-    one-added hour x l p = (rw (eq-eqb (cell b (PAIRS + 1 + k * 13)) r e, p .0) refl, omega (arith, u hour l))
+  -- of the right: one hour more
+  module _ (e : cell b (PAIRS + 1 + k * 13) ≡ r) (n x : ℕ) (l : n < 5) (s : x ≡ getD (sideOf side (pairAt b k)) n 0) (m : x ≤ 4294967295) (sums : List ℕ) (a : AddedTo b k r side totals n sums) where
+    abbrev sum : ℕ
+    sum = getD totals n 0 + x
 
-    pub five-added : (f g h i j : ℕ) → Share b k side 0 f → Share b k side 1 g → Share b k side 2 h → Share b k side 3 i → Share b k side 4 j
-        → SumsWith b k r side totals ((getD totals 0 0 + f) ∷ (getD totals 1 0 + g) ∷ (getD totals 2 0 + h) ∷ (getD totals 3 0 + i) ∷ (getD totals 4 0 + j) ∷ [])
-    five-added f g h i j p q s t v =
-        let sums : List ℕ = (getD totals 0 0 + f) ∷ (getD totals 1 0 + g) ∷ (getD totals 2 0 + h) ∷ (getD totals 3 0 + i) ∷ (getD totals 4 0 + j) ∷ [] in
-        let all = in-five (λ hour. (getD sums hour 0 ≡ getD totals hour 0 + shareOf r side hour (pairAt b k)) × (getD sums hour 0 ≤ (k + 1) * 4294967295))
-        (one-added 0 f (omega arith) p) (one-added 1 g (omega arith) q) (one-added 2 h (omega arith) s) (one-added 3 i (omega arith) t) (one-added 4 j (omega arith) v) in
-        record { sums-are = λ hour l. all hour l .0; bounded = λ hour l. all hour l .1 }
+    stored : getD (set sums n sum) n 0 ≡ sum
+    stored = getD-set-same sums n sum 0 (omega (arith, a .size))
+
+    sum-is : sum ≡ getD totals n 0 + shareOf r side n (pairAt b k)
+    unfolding shareOf pairAt
+    sum-is = rw (eq-eqb (cell b (PAIRS + 1 + k * 13)) r e, s)
+
+    pub hour-added : AddedTo b k r side totals (n + 1) (set sums n sum)
+    hour-added =
+        record {
+          size = length-set sums n sum ∙ a .size;
+          same = λ hour h. one (eqb hour n) refl h .0;
+          most = λ hour h. one (eqb hour n) refl h .1;
+        }
+      where
+        one : {hour : ℕ} (t : Bool) → eqb hour n ≡ t → hour < n + 1
+            → (getD (set sums n sum) hour 0 ≡ getD totals hour 0 + shareOf r side hour (pairAt b k)) × (getD (set sums n sum) hour 0 ≤ (k + 1) * 4294967295)
+        one {hour} true q h = rw (eqb-true hour n q, stored) (sum-is, omega (arith, u n l))
+        one {hour} false q h =
+            let other : hour ≢ n = eqb-false hour n q in
+            rw (getD-set-other sums n hour sum 0 other) (a .same hour (omega arith), a .most hour (omega arith))
+
+module _ (b : List ℕ) (k r side : ℕ) (totals : List ℕ) where
+  pub no-hour-added : length totals ≡ 5 → AddedTo b k r side totals 0 totals
+  no-hour-added e = record { size = e; same = λ hour l. absurd (omega arith); most = λ hour l. absurd (omega arith) }
+
+  pub all-added : (n : ℕ) → 5 ≤ n → (sums : List ℕ) → AddedTo b k r side totals n sums → SumsWith b k r side totals sums
+  all-added n h sums a = record { sums-are = λ hour l. a .same hour (omega arith); bounded = λ hour l. a .most hour (omega arith) }
 
 -- ---- the total
 
@@ -123,28 +145,45 @@ module _ (held total : ℕ) where
   pub mark-off : total ≤ held → (0 ≡ cond {A = ℕ} (ltb held total) 1 0) × (0 ≤ 1)
   mark-off l = rw (le-ltb held total l) (refl, omega arith)
 
--- the bit of an hour as the code makes it, from the MW at a place
-abbrev Bit : List ℕ → List ℕ → ℕ → ℕ → ℕ → Type 0
-Bit b totals at hour m = m ≡ cond (ltb (cell b at) (getD totals hour 0)) 1 0
+-- bits put before others, the highest first
+unfoldable pub withBits : (ℕ → ℕ) → ℕ → ℕ → ℕ
+withBits bit zero bits = bits
+withBits bit (suc n) bits = withBits bit n (bit n + 2 * bits)
 
--- five bits, as the code adds them up
-module _ (b : List ℕ) (r side : ℕ) (l : r < counted b RIGHTS rightLimit) (totals : List ℕ) (w : Summed r side (bookOf b .pairs) totals) where
-  abbrev at : ℕ
-  at = RIGHTS + 4 + r * 8
+pub bits-next : (bit : ℕ → ℕ) (k bits m whole : ℕ) → k < 5 → m ≡ bit (4 - k) → whole ≡ withBits bit (5 - k) bits → whole ≡ withBits bit (5 - (k + 1)) (m + 2 * bits)
+unfolding withBits
+bits-next bit k bits m whole l e w =
+    let n : 5 - k ≡ suc (4 - k) = omega arith in
+    let p : 5 - (k + 1) ≡ 4 - k = omega arith in
+    rw (p, e) (w ∙ rw n)
 
-  abbrev bitAt : ℕ → ℕ
+pub bits-done : (bit : ℕ → ℕ) (k bits whole : ℕ) → 5 ≤ k → whole ≡ withBits bit (5 - k) bits → bits ≡ whole
+unfolding withBits
+bits-done bit k bits whole l w =
+    let n : 5 - k ≡ 0 = omega arith in
+    sym (w ∙ rw n)
+
+-- k bits are a number below 2 ^ k
+module _ (k bits m : ℕ) (f : bits < 2 ^ k) (o : m ≤ 1) where
+  pub bits-fit : k < 5 → m + 2 * bits < 32
+  bits-fit l = omega (arith, in-five (λ (j : ℕ). 2 ^ j ≤ 16) (omega arith) (omega arith) (omega arith) (omega arith) (omega arith) k l)
+
+  pub bits-below : m + 2 * bits < 2 ^ (k + 1)
+  bits-below =
+      let e : k + 1 ≡ suc k = omega arith in
+      let p : 2 ^ (k + 1) ≡ 2 ^ k * 2 = rw e (pow-suc 2 k) in
+      omega arith
+
+module _ (b : List ℕ) (r side : ℕ) where
+  pub bitAt : ℕ → ℕ
   bitAt hour = cond (aboveRight (bookOf b .rights) (bookOf b .pairs) r side hour) 1 0
 
-  bit-is : (hour m : ℕ) → hour < 5 → Bit b totals (at + hour) hour m → m ≡ bitAt hour
-  bit-is hour m h e = e ∙ rw (above-is b r side hour _ l h (w .totals-are hour h))
+  pub marks-start : marks (bookOf b .rights) (bookOf b .pairs) r side ≡ withBits bitAt 5 0
+  unfolding marks mapOf withBits bitAt
+  marks-start = refl
 
-  pub marks-are : (f g h i j : ℕ) → Bit b totals at 0 f → Bit b totals (at + 1) 1 g → Bit b totals (at + 2) 2 h → Bit b totals (at + 3) 3 i → Bit b totals (at + 4) 4 j
-      → f + 2 * (g + 2 * (h + 2 * (i + 2 * j))) ≡ marks (bookOf b .rights) (bookOf b .pairs) r side
-  unfolding marks mapOf
-  marks-are f g h i j p q s t u =
-      let first : f ≡ bitAt 0 = bit-is 0 f (omega arith) (rw (add-zero at) p) in
-      let second : g ≡ bitAt 1 = bit-is 1 g (omega arith) q in
-      let third : h ≡ bitAt 2 = bit-is 2 h (omega arith) s in
-      let fourth : i ≡ bitAt 3 = bit-is 3 i (omega arith) t in
-      let fifth : j ≡ bitAt 4 = bit-is 4 j (omega arith) u in
-      omega arith
+  -- the bit of an hour, from its MW and its total
+  pub bit-is : r < counted b RIGHTS rightLimit → (totals : List ℕ) → Summed r side (bookOf b .pairs) totals
+      → (hour m : ℕ) → hour < 5 → m ≡ cond (ltb (cell b (RIGHTS + 4 + r * 8 + hour)) (getD totals hour 0)) 1 0 → m ≡ bitAt hour
+  unfolding bitAt
+  bit-is l totals w hour m h e = e ∙ rw (above-is b r side hour _ l h (w .totals-are hour h))

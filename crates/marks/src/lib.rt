@@ -12,11 +12,11 @@ ghost use Rattle.marks.specs.Totals.{Bounded, SumsWith, Summed};
 use cells::Book;
 
 // The MW of one side of a pair in an hour of the session.
-fn side_mw(book: &Book, i: u32, side: u8, hour: u8) -> u32
+fn side_mw(book: &Book, i: u32, side: u8, hour: usize) -> u32
     requires { ⌜ (i < pairLimit) × ((side ≤ 1) × (hour < 5)) ⌝ }
     ensures { λ r. ⌜ r ≡ getD (sideOf side (pairAt (now (book .entry)) i)) hour 0 ⌝ }
 {
-    book[pairs::side_at(i, side) + hour as usize]
+    book[pairs::side_at(i, side) + hour]
 }
 
 // The totals of the pairs before number i, with those of pair i added where it is of the right.
@@ -27,13 +27,11 @@ fn with_share(book: &Book, i: u32, right: u32, side: u8, totals: [u64; 5]) -> [u
     if book[cells::PAIRS + 1 + i as usize * 13] != right {
         return totals;
     }
-    [
-        totals[0] + side_mw(book, i, side, 0) as u64,
-        totals[1] + side_mw(book, i, side, 1) as u64,
-        totals[2] + side_mw(book, i, side, 2) as u64,
-        totals[3] + side_mw(book, i, side, 3) as u64,
-        totals[4] + side_mw(book, i, side, 4) as u64,
-    ]
+    let mut sums = totals;
+    for hour in 0..5 {
+        sums[hour] = totals[hour] + side_mw(book, i, side, hour) as u64;
+    }
+    sums
 }
 
 // A side's totals over all pairs of a right, in the five hours of the session.
@@ -67,10 +65,10 @@ pub fn marks(book: &Book, right: u16, side: u8) -> u32
 {
     let totals = side_totals(book, right as u32, side);
     let at = cells::RIGHTS + 4 + right as usize * 8;
-    let first = mark(book[at], totals[0]);
-    let second = mark(book[at + 1], totals[1]);
-    let third = mark(book[at + 2], totals[2]);
-    let fourth = mark(book[at + 3], totals[3]);
-    let fifth = mark(book[at + 4], totals[4]);
-    first + 2 * (second + 2 * (third + 2 * (fourth + 2 * fifth)))
+    let mut bits = 0;
+    for k in 0..5 {
+        let hour = 4 - k;
+        bits = mark(book[at + hour], totals[hour]) + 2 * bits;
+    }
+    bits
 }

@@ -1,62 +1,57 @@
 -- `marks::with_share` meets its contract.
 -- Assumes nothing.
+use Prim.Native.Nat.{_-_, _≤_}
 use native.Mathlib.Omega.{arith}
-use Rattle.marks.proofs.Sums.{none-added, five-added}
 use borrow.Author.Needs.{needs}
+use Rattle.marks.proofs.Sums.{AddedTo, none-added, no-hour-added, hour-added, all-added}
 use Rattle.marks.proofs.with_share.Statement.{statement}
 use Rattle.marks.proofs.with_share.Tie as tie
 
-returns : tie.Need-returns
+abbrev Inv-loop : tie.InvT-loop
+Inv-loop book i right side totals sums₀ hour₀ sums hour = (hour ≤ 5) × AddedTo book i right side totals hour sums
+
+abbrev μ-loop : tie.MeasureT-loop
+μ-loop book i right side totals sums₀ hour₀ sums hour = 5 - hour
+
+returns : tie.Need-returns Inv-loop μ-loop
 returns c = none-added _ _ _ _ _ (c .before .before .pre .1 .1) (c .if1 .taken)
 
-add-t20 : tie.Need-add-t20
-add-t20 c = omega (arith, c .before .before .before .pre .1 .1 0 (omega arith))
+loop-holds : tie.Need-loop-holds Inv-loop μ-loop
+loop-holds c = (omega arith, no-hour-added _ _ _ _ _ (search needs))
 
-add-t26 : tie.Need-add-t26
-add-t26 c = omega (arith, c .before .before .before .before .pre .1 .1 1 (omega arith))
+add-sums : tie.Need-add-sums Inv-loop μ-loop
+add-sums c = omega (arith, c .before .before .before .before .before .pre .1 .1 _ (c .before .loop-test .taken))
 
-add-t32 : tie.Need-add-t32
-add-t32 c = omega (arith, c .before .before .before .before .before .pre .1 .1 2 (omega arith))
+loop-again : tie.Need-loop-again Inv-loop μ-loop
+loop-again c =
+    let s = c .before .before .before in
+    let l = c .before .loop-test .taken in
+    (omega (arith, l), hour-added _ _ _ _ _ (s .before .before .pre .1 .1) (s .if1 .left) _ _ l (c .side-mw .ensures) (search needs) _ (c .before .before .loop .inv .1))
 
-add-t38 : tie.Need-add-t38
-add-t38 c = omega (arith, c .before .before .before .before .before .before .pre .1 .1 3 (omega arith))
-
-add-t44 : tie.Need-add-t44
-add-t44 c = omega (arith, c .before .before .before .before .before .before .before .pre .1 .1 4 (omega arith))
-
-returns-2 : tie.Need-returns-2
-returns-2 c =
-    let s = c .before .before .before .before .before in
-    five-added _ _ _ _ _ (s .before .before .pre .1 .1) (s .if1 .left) _ _ _ _ _ (c .before .before .before .before .side-mw .ensures, search needs) (c .before .before .before .side-mw2 .ensures, search needs) (c .before .before .side-mw3 .ensures, search needs) (c .before .side-mw4 .ensures, search needs) (c .side-mw5 .ensures, search needs)
+returns-2 : tie.Need-returns-2 Inv-loop μ-loop
+returns-2 c = all-added _ _ _ _ _ _ (c .loop-test .left) _ (c .before .loop .inv .1)
 
 pub with-share-spec : {M : Type 1} → statement M
 with-share-spec =
     tie.close
     (tie.spec
+    Inv-loop
+    μ-loop
     (λ c. search needs)
     (λ c. search needs)
     (λ c. search needs)
     (λ c. search needs)
     (λ c. search needs)
     returns
+    loop-holds
+    (λ c. search needs)
     (λ c. search needs)
     (λ c κs. search needs)
     (λ c. search needs)
-    add-t20
+    add-sums
     (λ c. search needs)
-    (λ c κs. search needs)
     (λ c. search needs)
-    add-t26
     (λ c. search needs)
-    (λ c κs. search needs)
     (λ c. search needs)
-    add-t32
-    (λ c. search needs)
-    (λ c κs. search needs)
-    (λ c. search needs)
-    add-t38
-    (λ c. search needs)
-    (λ c κs. search needs)
-    (λ c. search needs)
-    add-t44
+    loop-again
     returns-2)
