@@ -2,11 +2,12 @@
 -- Assumes nothing.
 use Prim.Native.Nat.{ℕ, zero, suc, _<_, _≤_, _^_}
 use mathlib.Core.Path.{_≡_}
-use mathlib.Core.Bool.{Bool}
+use mathlib.Core.Bool.{Bool, _||_, not}
 use mathlib.Core.List.{List, [], _∷_}
+use lib.Dec.{eqb}
 use lib.ListN.{length, getD}
-use Rattle.rules.specs.Basics.{mapOf, has}
-use Rattle.rules.specs.Records.{Kind, widths, fieldsOf, taking}
+use Rattle.rules.specs.Basics.{bit, mapOf, has}
+use Rattle.rules.specs.Records.{Kind, widths, fieldsOf, isKind, mapFor, taking}
 use Rattle.rules.specs.declared.CallRecord.{CallRecord}
 use Rattle.fields.specs.declared.KindMaps.{KindMaps}
 
@@ -38,3 +39,7 @@ pub record MwOf (c : CallRecord) (r : List ℕ) : Type 0 where
   pub same : r ≡ c .mw
   pub each : (i : ℕ) → getD r i 0 < 65536
   pub fits : CallFits c
+
+-- the reader's tests of a map and the values that were read by it, after what was tested before
+abbrev pub mapRefused : Bool → ℕ → List ℕ → Bool
+mapRefused before map vs = before || bit map 15 || not (isKind (getD vs 0 0)) || not (eqb map (mapFor (getD vs 0 0) vs))

@@ -1,11 +1,11 @@
 // The fields of a call record: the tables of their widths and of the kinds, and a call as its fields.
 ghost use mathlib.Core.Path.{_≡_};
-ghost use mathlib.Core.Bool.{_||_, _&&_, not};
+ghost use mathlib.Core.Bool.{false, _||_, _&&_, not};
 ghost use Prim.Native.Nat.{_<_};
 ghost use lib.Dec.{eqb};
 ghost use Rattle.rules.specs.Basics.{bit, has};
-ghost use Rattle.rules.specs.Records.{fieldsOf, callOf, kindAt, isKind, stands, mapFor, foreign};
-ghost use Rattle.fields.specs.Fields.{FieldsFit, CallFits, kindMaps, Size, MwOf};
+ghost use Rattle.rules.specs.Records.{fieldsOf, callOf, noCall, kindAt, isKind, stands, mapFor, foreign};
+ghost use Rattle.fields.specs.Fields.{FieldsFit, CallFits, kindMaps, Size, MwOf, mapRefused};
 use rules::CallRecord;
 use rules::Hour;
 use rules::Session;
@@ -25,7 +25,7 @@ struct KindMaps {
 const WIDTHS: [usize; 15] = [1, 2, 1, 1, 1, 1, 1, 2, 1, 2, 2, 2, 2, 2, 1];
 
 // How many bytes a field takes: its width where it stands, else none.
-pub fn size_of(field: usize, stands: bool) -> usize
+fn size_of(field: usize, stands: bool) -> usize
     requires { ⌜ field < 15 ⌝ }
     ensures { λ r. ⌜ Size field stands r ⌝ }
 {
@@ -67,7 +67,7 @@ pub fn is_kind(kind: u32) -> bool
     0 < kind && kind < 6
 }
 
-pub fn has_bit(map: u32, field: usize) -> bool
+fn has_bit(map: u32, field: usize) -> bool
     requires { ⌜ field < 16 ⌝ }
     ensures { λ r. ⌜ r ≡ bit map field ⌝ }
 {
@@ -75,7 +75,7 @@ pub fn has_bit(map: u32, field: usize) -> bool
 }
 
 // The field is in a record of the kind.
-pub fn is_written(kind: u32, field: usize, value: u32) -> bool
+fn is_written(kind: u32, field: usize, value: u32) -> bool
     requires { ⌜ field < 15 ⌝ }
     ensures { λ r. ⌜ r ≡ stands (kindAt kind) field value ⌝ }
 {
@@ -84,6 +84,22 @@ pub fn is_written(kind: u32, field: usize, value: u32) -> bool
         return true;
     }
     has_bit(maps.mws, field) && value != 0
+}
+
+// How many bytes a field takes in a record with the map.
+pub fn size_read(map: u32, field: usize) -> usize
+    requires { ⌜ field < 15 ⌝ }
+    ensures { λ r. ⌜ Size field (bit map field) r ⌝ }
+{
+    size_of(field, has_bit(map, field))
+}
+
+// How many bytes a field takes in a record of the kind.
+pub fn size_written(kind: u32, field: usize, value: u32) -> usize
+    requires { ⌜ field < 15 ⌝ }
+    ensures { λ r. ⌜ Size field (stands (kindAt kind) field value) r ⌝ }
+{
+    size_of(field, is_written(kind, field, value))
 }
 
 // The field is foreign to the kind, and not zero.
@@ -158,6 +174,13 @@ pub fn call_of(values: Fields) -> CallRecord
     }
 }
 
+// Every field is 0.
+pub fn no_call() -> CallRecord
+    ensures { λ r. ⌜ r ≡ noCall ⌝ }
+{
+    call_of([0u32; 15])
+}
+
 // The map of a kind's record with these values, from the last bit down.
 pub fn map_for(kind: u32, values: Fields) -> u32
     ensures { λ r. ⌜ r ≡ mapFor kind values ⌝ }
@@ -181,4 +204,18 @@ pub fn any_foreign(kind: u32, values: Fields) -> bool
         }
     }
     false
+}
+
+// The map has bit 15, the kind is none, or the map is not that of the kind with the values.
+pub fn map_refused(map: u32, values: Fields) -> bool
+    ensures { λ r. ⌜ r ≡ mapRefused false map values ⌝ }
+{
+    let kind = values[0];
+    if has_bit(map, 15) {
+        return true;
+    }
+    if !is_kind(kind) {
+        return true;
+    }
+    map != map_for(kind, values)
 }

@@ -60,11 +60,11 @@ unfolding numberAt
 field-number true w s at = refl
 field-number false w s at = refl
 
-module _ (k : Kind) (vs : List ℕ) (i : ℕ) {p : Bool} {n : ℕ} (m : length vs ≡ 15) (l : i < 15) (e : p ≡ stands k i (getD vs i 0)) (z : Size i p n) where
+module _ (k : Kind) (vs : List ℕ) (i : ℕ) {n : ℕ} (m : length vs ≡ 15) (l : i < 15) (z : Size i (stands k i (getD vs i 0)) n) where
   body-next : body k i (drop i widths) (drop i vs) ≡ bytesOf n (getD vs i 0) ++ body k (i + 1) (drop (i + 1) widths) (drop (i + 1) vs)
   unfolding body
   body-next =
-      rw (drop-next widths i (omega (arith, fifteen)), drop-next vs i (omega arith), ← e, field-bytes p (getD widths i 0) (getD vs i 0), z .taken, add-one i)
+      rw (drop-next widths i (omega (arith, fifteen)), drop-next vs i (omega arith), field-bytes (stands k i (getD vs i 0)) (getD widths i 0) (getD vs i 0), z .taken, add-one i)
 
   pub length-next : length (body k i (drop i widths) (drop i vs)) ≡ n + length (body k (i + 1) (drop (i + 1) widths) (drop (i + 1) vs))
   length-next = rw (body-next, length-append, bytes-length n (getD vs i 0))
@@ -74,14 +74,14 @@ module _ (k : Kind) (vs : List ℕ) (i : ℕ) {p : Bool} {n : ℕ} (m : length v
   sets-next b at =
       rw body-next (sets-append b at (bytesOf n (getD vs i 0)) (body k (i + 1) (drop (i + 1) widths) (drop (i + 1) vs)) ∙ rw (bytes-length n (getD vs i 0)))
 
-module _ (map i at : ℕ) {p : Bool} {n : ℕ} (l : i < 15) (e : p ≡ bit map i) (z : Size i p n) where
+module _ (map i at : ℕ) {n : ℕ} (l : i < 15) (z : Size i (bit map i) n) where
   pub fields-next : (s : List ℕ) → fieldsAt (drop i widths) i map s at ≡ numberAt n s at ∷ fieldsAt (drop (i + 1) widths) (i + 1) map s (at + n)
   unfolding fieldsAt
-  fields-next s = rw (drop-next widths i (omega (arith, fifteen)), ← e, field-number p (getD widths i 0) s at, z .taken, add-one i)
+  fields-next s = rw (drop-next widths i (omega (arith, fifteen)), field-number (bit map i) (getD widths i 0) s at, z .taken, add-one i)
 
   pub end-next : endAt (drop i widths) i map at ≡ endAt (drop (i + 1) widths) (i + 1) map (at + n)
   unfolding endAt
-  end-next = rw (z .taken, e, drop-next widths i (omega (arith, fifteen)), add-one i)
+  end-next = rw (z .taken, drop-next widths i (omega (arith, fifteen)), add-one i)
 
 pub take-set : (vs : List ℕ) (i v : ℕ) (rest : List ℕ) → i < length vs → take i vs ++ (v ∷ rest) ≡ take (i + 1) (set vs i v) ++ rest
 take-set vs i v rest l = rw (add-one i, take-suc-set vs i v l) (sym (append-snoc (take i vs) v rest))

@@ -2,12 +2,12 @@
 -- Assumes nothing.
 use Prim.Native.Nat.{ℕ, _+_, _≤_}
 use mathlib.Core.Path.{_≡_}
-use mathlib.Core.Bool.{Bool, _||_, not}
+use mathlib.Core.Bool.{Bool, _||_}
 use mathlib.Core.List.{List}
-use lib.Dec.{ltb, eqb}
-use lib.ListN.{length, getD}
-use Rattle.rules.specs.Basics.{bit}
-use Rattle.rules.specs.Records.{widths, kindAt, isKind, mapFor, body, mapAt, fieldsIn, endIn}
+use lib.Dec.{ltb}
+use lib.ListN.{length}
+use Rattle.rules.specs.Records.{widths, kindAt, body, mapAt, fieldsIn, endIn}
+use Rattle.fields.specs.Fields.{mapRefused}
 use Rattle.record.specs.declared.Found.{Found}
 
 -- the map and the fields of the bytes, and the position past them
@@ -18,8 +18,7 @@ pub record Finds (s : List ℕ) (r : Found) : Type 0 where
 
 -- the reader's tests, of what was found in bytes of a length
 abbrev pub refusesFound : Found → ℕ → Bool
-refusesFound f n =
-    ltb n 2 || ltb n (f .end) || bit (f .map) 15 || not (isKind (getD (f .values) 0 0)) || not (eqb (f .map) (mapFor (getD (f .values) 0 0) (f .values)))
+refusesFound f n = mapRefused (ltb n 2 || ltb n (f .end)) (f .map) (f .values)
 
 -- the length of a kind's record with these values, which is not large
 pub record Length (kind : ℕ) (vs : List ℕ) (r : ℕ) : Type 0 where

@@ -57,7 +57,7 @@ fn find_fields(bytes: &[u8]) -> Found
     let mut values = [0u32; 15];
     let mut at: usize = 2;
     for field in 0..15 {
-        let size = fields::size_of(field, fields::has_bit(map, field));
+        let size = fields::size_read(map, field);
         values[field] = number_at(bytes, at, size);
         at += size;
     }
@@ -68,25 +68,18 @@ fn find_fields(bytes: &[u8]) -> Found
     }
 }
 
-// The record ends early, has bit 15 or no kind, or its map is not that of its kind with its values.
+// The record ends early, or its map is refused.
 fn reader_refuses(found: Found, length: usize) -> bool
     ensures { λ r. ⌜ r ≡ refusesFound found length ⌝ }
 {
-    let map = found.map;
-    let values = found.values;
     if length < 2 {
         return true;
     }
     if length < found.end {
         return true;
     }
-    if fields::has_bit(map, 15) {
-        return true;
-    }
-    if !fields::is_kind(values[0]) {
-        return true;
-    }
-    map != fields::map_for(values[0], values)
+    let values = found.values;
+    fields::map_refused(found.map, values)
 }
 
 // Reads the record that the bytes begin with, and ignores what follows it.
@@ -99,7 +92,7 @@ pub fn read(bytes: &[u8]) -> RecordRead
         return RecordRead {
             answer: Answer::Record,
             length: 0,
-            call: fields::call_of([0u32; 15]),
+            call: fields::no_call(),
         };
     }
     RecordRead {
@@ -117,7 +110,7 @@ fn record_length(kind: u32, values: Fields) -> usize
 {
     let mut length: usize = 2;
     for field in 0..15 {
-        length += fields::size_of(field, fields::is_written(kind, field, values[field]));
+        length += fields::size_written(kind, field, values[field]);
     }
     length
 }
@@ -154,7 +147,7 @@ fn put_fields(buffer: &mut [u8], kind: u32, values: Fields)
 {
     let mut at: usize = 2;
     for field in 0..15 {
-        let size = fields::size_of(field, fields::is_written(kind, field, values[field]));
+        let size = fields::size_written(kind, field, values[field]);
         put_number(buffer, at, size, values[field]);
         at += size;
     }

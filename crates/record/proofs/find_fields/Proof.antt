@@ -26,13 +26,14 @@ loop-holds c = (search needs, (refl, refl))
 
 loop-again : tie.Need-loop-again Inv-loop μ-loop
 loop-again c =
-    let at = c .before .before .before .before .loop in
+    let at = c .before .before .before .loop in
+    let size = c .before .size-read .ensures in
     let l : at .field < 15 = search needs in
     let l′ : at .field < length (at .values) = omega arith in (
       search needs,
       (
-        at .inv .1 .0 ∙ rw (fields-next _ _ _ l (c .before .before .has-bit .ensures) (c .before .size-of .ensures) _, c .number-at2 .ensures) (take-set _ _ _ _ l′),
-        at .inv .1 .1 ∙ end-next _ _ _ l (c .before .before .has-bit .ensures) (c .before .size-of .ensures),
+        at .inv .1 .0 ∙ rw (fields-next _ _ _ l size _, c .number-at2 .ensures) (take-set _ _ _ _ l′),
+        at .inv .1 .1 ∙ end-next _ _ _ l size,
       ),
     )
 
@@ -57,7 +58,6 @@ find-fields-spec =
     μ-loop
     (λ c κs. search needs)
     loop-holds
-    (λ c κs. search needs)
     (λ c κs. search needs)
     (λ c κs. search needs)
     (λ c. search needs)

@@ -25,24 +25,23 @@ loop-holds c = (search needs, refl)
 
 put-number-requires : tie.Need-put-number-requires Inv-loop μ-loop
 put-number-requires c κs =
-    let at = c .before .before .before .before in
+    let at = c .before .before .before in
     let kind = kindAt (at .before .before .args .kind) in
-    let left = length-next kind (at .before .before .args .t3) (at .loop .field) (search needs) (search needs) (c .before .before .is-written .ensures) (c .before .size-of .ensures) in
+    let left = length-next kind (at .before .before .args .t3) (at .loop .field) (search needs) (search needs) (c .before .size-written .ensures) in
     omega (arith, left)
 
 loop-again : tie.Need-loop-again Inv-loop μ-loop
 loop-again c =
-    let at = c .before .before .before .before .before .before .before in
+    let at = c .before .before .before .before .before .before in
     let values = at .before .before .args .t3 in
-    let stands = c .before .before .before .before .before .is-written .ensures in
-    let size = c .before .before .before .before .size-of .ensures in
+    let size = c .before .before .before .before .size-written .ensures in
     let put = c .before .before .put-number in
     let l : at .loop .field < 15 = search needs in
     let n : length values ≡ 15 = search needs in
-    let left = length-next (kindAt (at .before .before .args .kind)) values (at .loop .field) n l stands size in
+    let left = length-next (kindAt (at .before .before .args .kind)) values (at .loop .field) n l size in
     let same : length (put .last .0) ≡ length (at .loop .buffer) = ap length (put .ensures) ∙ simp length-sets in (
       ((search needs, n), (omega (arith, same), omega (arith, same, left))),
-      rw (put .ensures) (at .loop .inv .1 ∙ sets-next _ _ _ n l stands size _ _),
+      rw (put .ensures) (at .loop .inv .1 ∙ sets-next _ _ _ n l size _ _),
     )
 
 returns : tie.Need-returns Inv-loop μ-loop
@@ -61,7 +60,6 @@ put-fields-spec =
     loop-holds
     (λ c. search needs)
     (λ c. search needs)
-    (λ c κs. search needs)
     (λ c κs. search needs)
     (λ c. search needs)
     (λ c. search needs)

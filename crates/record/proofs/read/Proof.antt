@@ -1,34 +1,26 @@
 -- `record::read` meets its contract.
 -- Assumes nothing.
-use mathlib.Core.List.{[], _∷_}
 use native.Mathlib.Omega.{arith}
 use borrow.Author.Needs.{needs}
-use Rattle.rules.specs.Records.{widths, callOf, noCall}
-use Rattle.fields.proofs.Fields.{fit-at}
 use Rattle.record.proofs.Whole.{found-fits, read-refused, read-granted}
 use Rattle.record.proofs.read.Statement.{statement}
 use Rattle.record.proofs.read.Tie as tie
 
-call-of-requires : tie.Need-call-of-requires
-unfolding widths
-call-of-requires c κs = fit-at widths (0 ∷ 0 ∷ 0 ∷ 0 ∷ 0 ∷ 0 ∷ 0 ∷ 0 ∷ 0 ∷ 0 ∷ 0 ∷ 0 ∷ 0 ∷ 0 ∷ 0 ∷ []) (search needs)
-
 returns : tie.Need-returns
-unfolding noCall callOf
 returns c =
-    read-refused _ _ (c .before .before .before .before .find-fields .ensures) (λ i. omega (arith, c .before .before .before .before .before .shared-slice-known .given i)) (c .call-of .ensures)
+    read-refused _ _ (c .before .before .before .before .find-fields .ensures) (λ i. omega (arith, c .before .before .before .before .before .shared-slice-known .given i)) (c .no-call .ensures)
     (c .before .before .reader-refuses .ensures) (c .before .if1 .taken)
 
-call-of-requires-2 : tie.Need-call-of-requires-2
-call-of-requires-2 c κs =
+call-of-requires : tie.Need-call-of-requires
+call-of-requires c κs =
     found-fits _ _ (c .before .before .before .find-fields .ensures) (λ i. omega (arith, c .before .before .before .before .shared-slice-known .given i))
 
 returns-2 : tie.Need-returns-2
 returns-2 c =
-    read-granted _ _ (c .before .before .before .before .find-fields .ensures) (λ i. omega (arith, c .before .before .before .before .before .shared-slice-known .given i)) (c .call-of2 .ensures)
+    read-granted _ _ (c .before .before .before .before .find-fields .ensures) (λ i. omega (arith, c .before .before .before .before .before .shared-slice-known .given i)) (c .call-of .ensures)
     (c .before .before .reader-refuses .ensures) (c .before .if1 .left)
 
 pub read-spec : {M : Type 1} → statement M
 read-spec =
     tie.close
-    (tie.spec (λ c κs. search needs) (λ c κs. search needs) call-of-requires returns call-of-requires-2 returns-2)
+    (tie.spec (λ c κs. search needs) (λ c κs. search needs) (λ c κs. search needs) returns call-of-requires returns-2)

@@ -24,9 +24,9 @@ loop-holds c = search needs
 
 loop-again : tie.Need-loop-again Inv-loop μ-loop
 loop-again c =
-    let at = c .before .before .before in
+    let at = c .before .before in
     let kind = kindAt (at .before .args .kind) in
-    let left = length-next kind (at .before .args .t2) (at .loop .field) (search needs) (search needs) (c .before .is-written .ensures) (c .size-of .ensures) in
+    let left = length-next kind (at .before .args .t2) (at .loop .field) (search needs) (search needs) (c .size-written .ensures) in
     (search needs, omega (arith, left))
 
 returns : tie.Need-returns Inv-loop μ-loop
@@ -44,7 +44,6 @@ record-length-spec =
     loop-holds
     (λ c. search needs)
     (λ c. search needs)
-    (λ c κs. search needs)
     (λ c κs. search needs)
     (λ c. search needs)
     (λ c. search needs)
