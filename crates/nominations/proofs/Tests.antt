@@ -3,7 +3,7 @@
 use Prim.Native.Nat.{ℕ, _+_, _*_, _<_}
 use mathlib.Core.Path.{_≡_, refl, sym, ap, _∙_}
 use mathlib.Core.Logic.{_≢_}
-use mathlib.Core.Bool.{Bool, true, false, cond, _||_, _&&_, not, and-true, and-false}
+use mathlib.Core.Bool.{Bool, true, false, cond, _||_, not}
 use mathlib.Core.List.{List}
 use lib.Dec.{eqb, leb}
 use lib.ListN.{length, drop, List·getD-eq-default}
@@ -11,14 +11,12 @@ use borrow.Author.Tests.{leb-true, eq-eqb, ne-eqb}
 use Rattle.rules.specs.Basics.{bit, anyAbove}
 use Rattle.rules.specs.Sessions.{hoursIn}
 use Rattle.rules.specs.Windows.{nominationOutside}
-use Rattle.rules.specs.Book.{Direction, Right, direction, party, modelOf, directionLimit, pairLimit, partyLimit, rightLimit}
+use Rattle.rules.specs.Book.{Direction, Right, direction, party, modelOf, directionLimit, partyLimit, rightLimit}
 use Rattle.rules.specs.Refusals.{directionUnknown, rightUnknown, hoursLacking}
-use Rattle.cells.specs.Layout.{DIRECTIONS, PARTIES, RIGHTS, PAIRS}
+use Rattle.cells.specs.Layout.{DIRECTIONS, PARTIES, RIGHTS}
 use Rattle.cells.specs.View.{cell, counted, dayHoursIn, weekdayIn, directionAt, rightAt, bookOf}
-use Rattle.cells.proofs.Views.{access-at, direction-at, right-count, right-at, pair-count}
-use Rattle.cells.specs.declared.Found.{Found}
-use Rattle.cells.specs.declared.Found.the-variants.{At, Nothing}
-use Rattle.nominations.specs.Work.{rightHolder, rightDirection, rightSession, operatorOf, isMissing}
+use Rattle.cells.proofs.Views.{access-at, direction-at, right-count, right-at}
+use Rattle.nominations.specs.Work.{rightHolder, rightDirection, rightSession, operatorOf}
 
 -- ---- the parties
 
@@ -85,11 +83,3 @@ module _ (b : List ℕ) (r : ℕ) (l : r < counted b RIGHTS rightLimit) where
 
   pub other-holds : (h s o : ℕ) → h ≡ rightAt b r .holder → h ≢ s → not (eqb h o) ≡ not (eqb (rightHolder (bookOf b) r) s || eqb (rightHolder (bookOf b) r) o)
   other-holds h s o q e = rw (← holder-is h q, ne-eqb h s e)
-
--- ---- room for a new pair
-
-pub full-at : (b : List ℕ) (n : ℕ) (f : Found) → n ≡ counted b PAIRS pairLimit → f ≡ Nothing → leb pairLimit n ≡ (leb pairLimit (length (bookOf b .pairs)) && isMissing f)
-full-at b n f e m = rw (pair-count b, e, m) (sym (and-true _))
-
-pub there-is-one : (b : List ℕ) (k : ℕ) (f : Found) → f ≡ At k → false ≡ (leb pairLimit (length (bookOf b .pairs)) && isMissing f)
-there-is-one b k f m = rw m (sym (and-false (leb pairLimit (length (bookOf b .pairs)))))

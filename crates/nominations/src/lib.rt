@@ -1,21 +1,19 @@
 // Nominations. A nomination is checked whole before anything is stored.
 ghost use mathlib.Core.Path.{_≡_};
-ghost use mathlib.Core.Bool.{_||_, _&&_, not};
-ghost use Prim.Native.Nat.{_+_, _*_, _<_, _≤_};
-ghost use lib.Dec.{leb, ltb, eqb};
-ghost use lib.ListN.{length};
-ghost use lib.Seq.{sets};
+ghost use mathlib.Core.Bool.{_||_, not};
+ghost use Prim.Native.Nat.{_<_};
+ghost use lib.Dec.{ltb, eqb};
 ghost use Rattle.rules.specs.Basics.{bit, anyAbove};
 ghost use Rattle.rules.specs.Windows.{latest, nominationOutside};
-ghost use Rattle.rules.specs.Book.{party, modelOf, pairLimit, partyLimit, rightLimit};
+ghost use Rattle.rules.specs.Book.{party, modelOf, partyLimit, rightLimit};
 ghost use Rattle.rules.specs.Calls.{Nominate};
 ghost use Rattle.rules.specs.Nominations.{outOf, intoOf};
 ghost use Rattle.rules.specs.Refusals.{partyUnknown, rightUnknown, hoursLacking};
-ghost use Rattle.cells.specs.Layout.{PARTIES, RIGHTS, PAIRS};
+ghost use Rattle.cells.specs.Layout.{PARTIES, RIGHTS};
 ghost use Rattle.cells.specs.View.{bookOf, counted};
 ghost use Rattle.pairs.specs.Search.{standingPair};
 ghost use Rattle.answers.specs.Promises.{Answers};
-ghost use Rattle.nominations.specs.Work.{rightHolder, rightDirection, rightSession, operatorOf, isMissing, Enters, Cleared, JudgedNomination, NewPair, PairThere, Placed};
+ghost use Rattle.nominations.specs.Work.{rightHolder, rightDirection, rightSession, operatorOf, Cleared, JudgedNomination, Placed};
 use cells::Book;
 use cells::Found;
 use rules::Answer;
@@ -158,16 +156,6 @@ fn nominated_pair(book: &Book, sender: u8, other: u8, right: u16, side: u8) -> F
     pairs::standing_pair(book, right as u32, out, into)
 }
 
-// A new pair is needed, and the table is full.
-fn pairs_full(book: &Book, found: Found) -> bool
-    ensures { λ r. ⌜ r ≡ (leb pairLimit (length (bookOf (now (book .entry)) .pairs)) && isMissing found) ⌝ }
-{
-    let Found::At(_) = found else {
-        return cells::PAIR_LIMIT <= cells::count_in(book, cells::PAIRS, cells::PAIR_LIMIT);
-    };
-    false
-}
-
 // ---- the verdict
 
 fn nomination_verdict(
@@ -203,53 +191,13 @@ fn nomination_verdict(
         return NominationVerdict::No(Answer::Owner);
     }
     let standing = nominated_pair(book, sender, other, right, side);
-    if pairs_full(book, standing) {
+    if pairs::pairs_full(book, standing) {
         return NominationVerdict::No(Answer::Full);
     }
     NominationVerdict::Clear(standing)
 }
 
 // ---- a granted nomination
-
-// A new pair with no MW: its number.
-fn open_pair(book: &mut Book, right: u32, out: u32, into: u32) -> u32
-    requires { ⌜ counted (now book) PAIRS pairLimit < pairLimit ⌝ }
-    ensures { λ r. ⌜ NewPair (now (book .entry)) right out into r (now (book .exit)) ⌝ }
-{
-    cells::cells_in(book);
-    let count = cells::count_in(book, cells::PAIRS, cells::PAIR_LIMIT);
-    let row = [right, out, into, 0, 0, 0, 0, 0, 0, 0, 0, 0, 0];
-    stores::add_row(book, cells::PAIRS, count, &row);
-    count
-}
-
-// The number of the pair that the verdict found, or of a new one.
-fn take_pair(book: &mut Book, right: u32, out: u32, into: u32, found: Found) -> u32
-    requires { ⌜ Enters (now book) right out into found ⌝ }
-    ensures { λ r. ⌜ PairThere (now (book .entry)) right out into r (now (book .exit)) ⌝ }
-{
-    cells::cells_in(book);
-    let Found::At(number) = found else {
-        return open_pair(book, right, out, into);
-    };
-    number
-}
-
-// The five MW of one side of a pair.
-fn write_side(book: &mut Book, pair: u32, side: u8, mw: [u16; 5])
-    requires { ⌜ (pair < pairLimit) × (side ≤ 1) ⌝ }
-    ensures { λ r. ⌜ now (book .exit) ≡ sets (now (book .entry)) (PAIRS + 4 + pair * 13 + 5 * side) mw ⌝ }
-{
-    let five = [
-        mw[0] as u32,
-        mw[1] as u32,
-        mw[2] as u32,
-        mw[3] as u32,
-        mw[4] as u32,
-    ];
-    let at = pairs::side_at(pair, side);
-    stores::write_cells(book, at, &five);
-}
 
 // The stores of a granted nomination: its marks, after it took its place.
 fn place_nomination(
@@ -267,8 +215,8 @@ fn place_nomination(
 {
     let out = out_party(sender, other, side);
     let into = in_party(sender, other, side);
-    let pair = take_pair(book, right as u32, out, into, found);
-    write_side(book, pair, side, mw);
+    let pair = pairs::take_pair(book, right as u32, out, into, found);
+    pairs::write_side(book, pair, side, mw);
     stores::set_clock(book, time);
     marks::marks(book, right, side)
 }

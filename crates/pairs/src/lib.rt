@@ -1,21 +1,20 @@
-// The search for a pair in the cells.
+// The table of pairs: the search for a pair, new pairs, and the MW of a side.
 ghost use mathlib.Core.Path.{_≡_};
+ghost use mathlib.Core.Bool.{_&&_};
 ghost use Prim.Native.Nat.{_+_, _*_, _<_, _≤_};
+ghost use lib.Dec.{leb};
+ghost use lib.ListN.{length};
+ghost use lib.Seq.{sets};
 ghost use Rattle.rules.specs.Book.{pairLimit};
 ghost use Rattle.rules.specs.Nominations.{isPairOf};
 ghost use Rattle.cells.specs.Layout.{PAIRS};
-ghost use Rattle.cells.specs.View.{pairAt};
+ghost use Rattle.cells.specs.View.{bookOf, counted, pairAt};
 ghost use Rattle.pairs.specs.Search.{standingPair};
+ghost use Rattle.pairs.specs.Work.{isMissing, Enters, NewPair, PairThere};
 use cells::Book;
 use cells::Found;
 
-// Where the five MW of one side of a pair stand.
-pub fn side_at(pair: u32, side: u8) -> usize
-    requires { ⌜ (pair < pairLimit) × (side ≤ 1) ⌝ }
-    ensures { λ r. ⌜ r ≡ PAIRS + 4 + pair * 13 + 5 * side ⌝ }
-{
-    cells::PAIRS + 4 + pair as usize * 13 + 5 * side as usize
-}
+// ---- the search
 
 // The pair number i is that of a right, an out party and an in party.
 fn same_pair(book: &Book, i: u32, right: u32, out: u32, into: u32) -> bool
@@ -43,4 +42,66 @@ pub fn standing_pair(book: &Book, right: u32, out: u32, into: u32) -> Found
         }
     }
     Found::Nothing
+}
+
+// A new pair is needed, and the table is full.
+pub fn pairs_full(book: &Book, found: Found) -> bool
+    ensures { λ r. ⌜ r ≡ (leb pairLimit (length (bookOf (now (book .entry)) .pairs)) && isMissing found) ⌝ }
+{
+    let Found::At(_) = found else {
+        return cells::PAIR_LIMIT <= cells::count_in(book, cells::PAIRS, cells::PAIR_LIMIT);
+    };
+    false
+}
+
+// ---- the pair of a granted nomination
+
+// A new pair with no MW: its number.
+fn open_pair(book: &mut Book, right: u32, out: u32, into: u32) -> u32
+    requires { ⌜ counted (now book) PAIRS pairLimit < pairLimit ⌝ }
+    ensures { λ r. ⌜ NewPair (now (book .entry)) right out into r (now (book .exit)) ⌝ }
+{
+    cells::cells_in(book);
+    let number = cells::count_in(book, cells::PAIRS, cells::PAIR_LIMIT);
+    let row = [right, out, into, 0, 0, 0, 0, 0, 0, 0, 0, 0, 0];
+    stores::add_row(book, cells::PAIRS, number, &row);
+    number
+}
+
+// The number of the pair that the verdict found, or of a new one.
+pub fn take_pair(book: &mut Book, right: u32, out: u32, into: u32, found: Found) -> u32
+    requires { ⌜ Enters (now book) right out into found ⌝ }
+    ensures { λ r. ⌜ PairThere (now (book .entry)) right out into r (now (book .exit)) ⌝ }
+{
+    cells::cells_in(book);
+    let Found::At(number) = found else {
+        return open_pair(book, right, out, into);
+    };
+    number
+}
+
+// ---- the MW of a side
+
+// Where the five MW of one side of a pair stand.
+pub fn side_at(pair: u32, side: u8) -> usize
+    requires { ⌜ (pair < pairLimit) × (side ≤ 1) ⌝ }
+    ensures { λ r. ⌜ r ≡ PAIRS + 4 + pair * 13 + 5 * side ⌝ }
+{
+    cells::PAIRS + 4 + pair as usize * 13 + 5 * side as usize
+}
+
+// The five MW of one side of a pair.
+pub fn write_side(book: &mut Book, pair: u32, side: u8, mw: [u16; 5])
+    requires { ⌜ (pair < pairLimit) × (side ≤ 1) ⌝ }
+    ensures { λ r. ⌜ now (book .exit) ≡ sets (now (book .entry)) (PAIRS + 4 + pair * 13 + 5 * side) mw ⌝ }
+{
+    let five = [
+        mw[0] as u32,
+        mw[1] as u32,
+        mw[2] as u32,
+        mw[3] as u32,
+        mw[4] as u32,
+    ];
+    let at = side_at(pair, side);
+    stores::write_cells(book, at, &five);
 }

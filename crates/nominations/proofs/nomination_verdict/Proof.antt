@@ -10,7 +10,8 @@ use Rattle.rules.specs.Details.{refusal}
 use Rattle.rules.specs.declared.Answer.the-variants.{Field, Clock, Unknown, Gate, Hours, Access, Owner, Full}
 use Rattle.cells.specs.View.{bookOf}
 use Rattle.answers.proofs.Laws.{Left, pass, refuse, none-left, told}
-use Rattle.nominations.proofs.Verdicts.{nomination-left, KnownNomination, known-nomination, full-is}
+use Rattle.pairs.proofs.Pairs.{full-is}
+use Rattle.nominations.proofs.Verdicts.{nomination-left, KnownNomination, known-nomination}
 use borrow.Author.Needs.{needs}
 use Rattle.nominations.proofs.nomination_verdict.Statement.{statement}
 use Rattle.nominations.proofs.nomination_verdict.Tie as tie

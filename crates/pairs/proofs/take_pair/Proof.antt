@@ -1,10 +1,10 @@
--- `nominations::take_pair` meets its contract.
+-- `pairs::take_pair` meets its contract.
 -- Assumes nothing.
 use mathlib.Core.Path.{sym, _∙_}
-use Rattle.nominations.proofs.Placing.{room-left, opened-there, found-there}
+use Rattle.pairs.proofs.Pairs.{room-left, opened-there, found-there}
 use borrow.Author.Needs.{needs}
-use Rattle.nominations.proofs.take_pair.Statement.{statement}
-use Rattle.nominations.proofs.take_pair.Tie as tie
+use Rattle.pairs.proofs.take_pair.Statement.{statement}
+use Rattle.pairs.proofs.take_pair.Tie as tie
 
 open-pair-requires : tie.Need-open-pair-requires
 open-pair-requires c κs = room-left (c .before .before .before .before .before .pre) (c .before .enum-told .given .1)

@@ -1,9 +1,9 @@
--- `nominations::write_side` meets its contract.
+-- `pairs::write_side` meets its contract.
 -- Assumes nothing.
 use borrow.Author.Needs.{needs}
-use Rattle.nominations.proofs.Placing.{side-written}
-use Rattle.nominations.proofs.write_side.Statement.{statement}
-use Rattle.nominations.proofs.write_side.Tie as tie
+use Rattle.pairs.proofs.Pairs.{side-written}
+use Rattle.pairs.proofs.write_side.Statement.{statement}
+use Rattle.pairs.proofs.write_side.Tie as tie
 
 returns : tie.Need-returns
 returns c = side-written _ _ _ _ _ (c .before .before .before .before .args .t4) (search needs) (c .before .before .before .side-at .ensures) (c .write-cells .ensures)

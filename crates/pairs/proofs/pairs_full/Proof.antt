@@ -1,9 +1,9 @@
--- `nominations::pairs_full` meets its contract.
+-- `pairs::pairs_full` meets its contract.
 -- Assumes nothing.
-use Rattle.nominations.proofs.Tests.{full-at, there-is-one}
+use Rattle.pairs.proofs.Pairs.{full-at, there-is-one}
 use borrow.Author.Needs.{needs}
-use Rattle.nominations.proofs.pairs_full.Statement.{statement}
-use Rattle.nominations.proofs.pairs_full.Tie as tie
+use Rattle.pairs.proofs.pairs_full.Statement.{statement}
+use Rattle.pairs.proofs.pairs_full.Tie as tie
 
 returns : tie.Need-returns
 returns c = full-at _ _ _ (c .count-in .ensures) (c .before .enum-told2 .given .1)
