@@ -1,13 +1,13 @@
 -- The test for a full table is 13 of the rules, and the pair of a granted nomination, found or new, is that of the rules.
 -- Assumes nothing.
-use Prim.Native.Nat.{ℕ, _+_, _*_, _<_}
+use Prim.Native.Nat.{ℕ, _+_, _<_}
 use mathlib.Core.Path.{_≡_, refl, sym, ap, _∙_}
 use mathlib.Core.Bool.{Bool, false, _&&_, not, and-true, and-false}
 use mathlib.Core.List.{List, [], _∷_, _++_}
 use native.Mathlib.Omega.{arith}
 use lib.Dec.{leb}
-use lib.ListN.{length, getD, set, length-append}
-use lib.Seq.{sets, set-append-seam, getD-append-seam}
+use lib.ListN.{length, set, length-append}
+use lib.Seq.{set-append-seam, getD-append-seam}
 use Rattle.rules.specs.Basics.{noMw}
 use Rattle.rules.specs.Book.{Book, Pair, pairLimit}
 use Rattle.rules.specs.Nominations.{isPairOf, pairTaken, emptyPair, withSide}
@@ -18,7 +18,6 @@ use Rattle.cells.specs.declared.Found.{Found}
 use Rattle.cells.specs.declared.Found.the-variants.{At, Nothing}
 use Rattle.stores.proofs.Firsts.{changed-there, changed-new}
 use Rattle.stores.proofs.Tables.{length-row}
-use Rattle.stores.proofs.Stores.{five-mw}
 use Rattle.stores.proofs.Pairs.{with-pair, pair-more}
 use Rattle.cells.proofs.Views.{pair-count, pair-at, has-room}
 use Rattle.pairs.specs.Search.{standingPair}
@@ -97,9 +96,3 @@ module _ (b : List ℕ) (r o i : ℕ) (e : standingPair b r o i ≡ Nothing) whe
               rw (opened-pairs, opened-pair, here) (set-append-seam (bookOf b .pairs) (emptyPair r o i) [] (withSide side mw (emptyPair r o i)))
               ∙ sym (with-pair r o i side mw (bookOf b .pairs) ∙ changed-new (isPairOf r o i) (withSide side mw) _ (bookOf b .pairs) (standing-none b r o i e .past));
         }
-
--- ---- the five MW of its side
-
-pub side-written : (b b′ : List ℕ) (at k side : ℕ) (mw : List ℕ) → length mw ≡ 5 → at ≡ PAIRS + 4 + k * 13 + 5 * side
-    → b′ ≡ sets b at (getD mw 0 0 ∷ getD mw 1 0 ∷ getD mw 2 0 ∷ getD mw 3 0 ∷ getD mw 4 0 ∷ []) → b′ ≡ sets b (PAIRS + 4 + k * 13 + 5 * side) mw
-side-written b b′ at k side mw size e f = f ∙ rw e (ap (λ (x : List ℕ). sets b (PAIRS + 4 + k * 13 + 5 * side) x) (five-mw mw size))

@@ -95,13 +95,8 @@ pub fn write_side(book: &mut Book, pair: u32, side: u8, mw: [u16; 5])
     requires { ⌜ (pair < pairLimit) × (side ≤ 1) ⌝ }
     ensures { λ r. ⌜ now (book .exit) ≡ sets (now (book .entry)) (PAIRS + 4 + pair * 13 + 5 * side) mw ⌝ }
 {
-    let five = [
-        mw[0] as u32,
-        mw[1] as u32,
-        mw[2] as u32,
-        mw[3] as u32,
-        mw[4] as u32,
-    ];
     let at = side_at(pair, side);
-    stores::write_cells(book, at, &five);
+    for k in 0..5 {
+        book[at + k] = mw[k] as u32;
+    }
 }
