@@ -11,6 +11,7 @@ use rehearse_text::byte_at;
 use rehearse_text::digits_from;
 use rehearse_text::fits;
 use rehearse_text::is_break;
+use rehearse_text::past_entry;
 use rehearse_text::past_spaces;
 use rehearse_text::past_word;
 use std::num::wrapping_add_usize;
@@ -359,16 +360,6 @@ fn walk(table: &[u8], line: &[u8], start: Found) -> Found {
     found
 }
 
-// The position past the next pattern's end.
-fn next_pattern(table: &[u8], place: usize) -> usize {
-    for at in place..table.len() {
-        if byte_at(table, at) == b';' {
-            return wrapping_add_usize(at, 1);
-        }
-    }
-    table.len()
-}
-
 // By the first word: its pattern, or the end of the patterns where it begins none.
 fn chosen(table: &[u8], line: &[u8]) -> Found {
     let mut place = 0;
@@ -376,7 +367,7 @@ fn chosen(table: &[u8], line: &[u8]) -> Found {
         if past_next(table, place, line, 0) != 0 {
             return begun(kind, place);
         }
-        place = next_pattern(table, place);
+        place = past_entry(table, place);
     }
     with_state(begun(KINDS, place), OTHER)
 }

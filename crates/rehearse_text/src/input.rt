@@ -114,3 +114,24 @@ pub fn past_word(table: &[u8], place: usize, line: &[u8], from: usize) -> usize 
     }
     from
 }
+
+// ---- tables
+
+// The position past the semicolon that ends an entry of a table, or the table's end.
+pub fn past_entry(table: &[u8], from: usize) -> usize {
+    for at in from..table.len() {
+        if byte_at(table, at) == b';' {
+            return std::num::wrapping_add_usize(at, 1);
+        }
+    }
+    table.len()
+}
+
+// The position of an entry by its number, from 0.
+pub fn entry_at(table: &[u8], number: usize) -> usize {
+    let mut place = 0;
+    for k in 0..number {
+        place = past_entry(table, place);
+    }
+    place
+}

@@ -1,6 +1,7 @@
 // Text is put into a buffer from a position on, as far as it fits; each function answers the position past it.
 use crate::Numbers;
 use crate::input::byte_at;
+use crate::input::entry_at;
 use crate::number_at;
 
 fn put_byte(text: &mut [u8], at: usize, byte: u8) -> usize {
@@ -69,11 +70,28 @@ fn fill_byte(text: &mut [u8], before: Filled, byte: u8, numbers: Numbers) -> Fil
     }
 }
 
-// A form with the numbers from a place on for its marks, which are '#'.
-pub fn fill(text: &mut [u8], at: usize, form: &[u8], numbers: Numbers, first: usize) -> usize {
+// An entry of a table of forms, with the numbers from a place on for its marks, which are '#'.
+pub fn fill_entry(
+    text: &mut [u8],
+    at: usize,
+    table: &[u8],
+    entry: usize,
+    numbers: Numbers,
+    first: usize,
+) -> usize {
     let mut filled = Filled { at, next: first };
-    for k in 0..form.len() {
-        filled = fill_byte(text, filled, byte_at(form, k), numbers);
+    let from = entry_at(table, entry);
+    for k in from..table.len() {
+        let byte = byte_at(table, k);
+        if byte == b';' {
+            return filled.at;
+        }
+        filled = fill_byte(text, filled, byte, numbers);
     }
     filled.at
+}
+
+// A form alone.
+pub fn fill(text: &mut [u8], at: usize, form: &[u8], numbers: Numbers, first: usize) -> usize {
+    fill_entry(text, at, form, 0, numbers, first)
 }

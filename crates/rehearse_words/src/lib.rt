@@ -1,44 +1,44 @@
 // What an answer's numbers mean, in words.
 use rehearse_text::Numbers;
-use rehearse_text::fill;
+use rehearse_text::fill_entry;
 use rehearse_text::number_at;
 use rehearse_text::put;
 use rehearse_text::put_number;
 
 // ---- refusals
 
-// The hour, and the direction or the profile.
-fn put_short(text: &mut [u8], at: usize, numbers: Numbers) -> usize {
-    let capacity = number_at(numbers, 2);
+// The direction or the profile that is short.
+fn put_capacity(text: &mut [u8], at: usize, capacity: u64) -> usize {
     if capacity == 0 {
-        return fill(text, at, b"short: hour #, direction", numbers, 1);
+        return put(text, at, b"direction");
     }
-    let end = fill(text, at, b"short: hour #, profile ", numbers, 1);
+    let end = put(text, at, b"profile ");
     put_number(text, end, capacity - 1)
 }
 
+// In the order of their numbers; 0 is none.
+const REFUSALS: [u8; 107] = *b"\
+    ;record;day;field;set-up shut;clock;unknown;taken;gate;hours;access;owner;cycle;full;below;\
+    short: hour #, ;\
+";
+
 fn put_refusal(text: &mut [u8], at: usize, numbers: Numbers) -> usize {
-    match number_at(numbers, 0) {
-        1 => put(text, at, b"record"),
-        2 => put(text, at, b"day"),
-        3 => put(text, at, b"field"),
-        4 => put(text, at, b"set-up shut"),
-        5 => put(text, at, b"clock"),
-        6 => put(text, at, b"unknown"),
-        7 => put(text, at, b"taken"),
-        8 => put(text, at, b"gate"),
-        9 => put(text, at, b"hours"),
-        10 => put(text, at, b"access"),
-        11 => put(text, at, b"owner"),
-        12 => put(text, at, b"cycle"),
-        13 => put(text, at, b"full"),
-        14 => put(text, at, b"below"),
-        15 => put_short(text, at, numbers),
-        _ => put(text, at, b"refused"),
+    let number = number_at(numbers, 0);
+    let end = fill_entry(text, at, &REFUSALS, number as usize, numbers, 1);
+    if number == 15 {
+        return put_capacity(text, end, number_at(numbers, 2));
     }
+    end
 }
 
 // ---- grants
+
+fn put_plural(text: &mut [u8], at: usize, one: bool) -> usize {
+    if one {
+        return at;
+    }
+    put(text, at, b"s")
+}
 
 // One hour of the session, where its mark stands.
 fn put_hour(text: &mut [u8], at: usize, marks: u64, hour: u32) -> usize {
@@ -60,57 +60,41 @@ fn put_hours(text: &mut [u8], at: usize, marks: u64) -> usize {
     end
 }
 
-// One mark or several.
-fn put_above(text: &mut [u8], at: usize, marks: u64) -> usize {
+fn is_one_hour(marks: u64) -> bool {
     match marks {
-        1 | 2 | 4 | 8 | 16 => put(text, at, b"granted: above the right in hour"),
-        _ => put(text, at, b"granted: above the right in hours"),
+        1 | 2 | 4 | 8 | 16 => true,
+        _ => false,
     }
 }
 
 // The hours of the session in which nominations are above the right.
-fn put_nominated(text: &mut [u8], at: usize, marks: u64) -> usize {
+fn put_above(text: &mut [u8], at: usize, marks: u64) -> usize {
     if marks == 0 {
-        return put(text, at, b"granted");
+        return at;
     }
-    let above = put_above(text, at, marks);
-    let end = put_hours(text, above, marks);
+    let above = put(text, at, b": above the right in hour");
+    let plural = put_plural(text, above, is_one_hour(marks));
+    let end = put_hours(text, plural, marks);
     put(text, end, b" of the session")
 }
 
-fn put_matched(text: &mut [u8], at: usize, numbers: Numbers) -> usize {
-    if number_at(numbers, 1) == 1 {
-        return put(text, at, b"granted: 1 right");
-    }
-    fill(text, at, b"granted: # rights", numbers, 1)
-}
-
-fn put_granted_read(text: &mut [u8], at: usize, kind: usize, numbers: Numbers) -> usize {
-    match kind {
-        rehearse_lines::LEFT => fill(text, at, b"# MW left", numbers, 1),
-        rehearse_lines::RIGHT => fill(
-            text,
-            at,
-            b"party #, direction #, session #, # # # # # MW",
-            numbers,
-            1,
-        ),
-        _ => fill(text, at, b"# # # # # MW confirmed", numbers, 1),
-    }
-}
+// In the order of the kinds of lines.
+const GRANTS: [u8; 205] = *b"\
+    granted;granted: direction #;granted: profile #;granted: party #;\
+    granted: # MW left;granted: right #;granted;granted: # right;\
+    # MW left;party #, direction #, session #, # # # # # MW;# # # # # MW confirmed;\
+";
 
 fn put_granted(text: &mut [u8], at: usize, kind: usize, numbers: Numbers) -> usize {
-    match kind {
-        rehearse_lines::OPEN => put(text, at, b"granted"),
-        rehearse_lines::DIRECTION => fill(text, at, b"granted: direction #", numbers, 1),
-        rehearse_lines::PROFILE => fill(text, at, b"granted: profile #", numbers, 1),
-        rehearse_lines::PARTY => fill(text, at, b"granted: party #", numbers, 1),
-        rehearse_lines::OFFER => fill(text, at, b"granted: # MW left", numbers, 1),
-        rehearse_lines::BID => fill(text, at, b"granted: right #", numbers, 1),
-        rehearse_lines::NOMINATE => put_nominated(text, at, number_at(numbers, 1)),
-        rehearse_lines::MATCH => put_matched(text, at, numbers),
-        _ => put_granted_read(text, at, kind, numbers),
+    let detail = number_at(numbers, 1);
+    let end = fill_entry(text, at, &GRANTS, kind, numbers, 1);
+    if kind == rehearse_lines::NOMINATE {
+        return put_above(text, end, detail);
     }
+    if kind == rehearse_lines::MATCH {
+        return put_plural(text, end, detail == 1);
+    }
+    end
 }
 
 pub fn put_words(text: &mut [u8], at: usize, kind: usize, numbers: Numbers) -> usize {

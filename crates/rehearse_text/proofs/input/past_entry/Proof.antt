@@ -1,18 +1,18 @@
--- `rehearse_lines::next_pattern` is safe and ends.
+-- `rehearse_text::input::past_entry` is safe and ends.
 -- Assumes nothing.
 use borrow.Author.Needs.{needs}
 use Prim.Native.Nat.{_≤_, _-_}
-use Rattle.rehearse_lines.proofs.next_pattern.Statement.{statement}
-use Rattle.rehearse_lines.proofs.next_pattern.Tie as tie
+use Rattle.rehearse_text.proofs.input.past_entry.Statement.{statement}
+use Rattle.rehearse_text.proofs.input.past_entry.Tie as tie
 
 abbrev Inv-loop : tie.InvT-loop
-Inv-loop table place at₀ at-end at = place ≤ at
+Inv-loop table from at₀ at-end at = from ≤ at
 
 abbrev μ-loop : tie.MeasureT-loop
-μ-loop table place at₀ at-end at = at-end - at
+μ-loop table from at₀ at-end at = at-end - at
 
-pub next-pattern-spec : {M : Type 1} → statement M
-next-pattern-spec =
+pub past-entry-spec : {M : Type 1} → statement M
+past-entry-spec =
     tie.close
     (tie.spec
     Inv-loop

@@ -1,0 +1,32 @@
+-- `rehearse_text::output::fill_entry` is safe and ends.
+-- Assumes nothing.
+use borrow.Author.Needs.{needs}
+use Prim.Native.Nat.{_-_}
+use mathlib.Core.Path.{_≡_}
+use lib.ListN.{length}
+use Rattle.rehearse_text.proofs.output.fill_entry.Statement.{statement}
+use Rattle.rehearse_text.proofs.output.fill_entry.Tie as tie
+
+abbrev Inv-loop : tie.InvT-loop
+Inv-loop text₀ at table entry numbers first filled₀ from k₀ k-end text filled k = length text ≡ length text₀
+
+abbrev μ-loop : tie.MeasureT-loop
+μ-loop text₀ at table entry numbers first filled₀ from k₀ k-end text filled k = k-end - k
+
+pub fill-entry-spec : {M : Type 1} → statement M
+fill-entry-spec =
+    tie.close
+    (tie.spec
+    Inv-loop
+    μ-loop
+    (λ c κs. search needs)
+    (λ c. search needs)
+    (λ c κs. search needs)
+    (λ c. search needs)
+    (λ c. search needs)
+    (λ c κs. search needs)
+    (λ c. search needs)
+    (λ c. search needs)
+    (λ c. search needs)
+    (λ c. search needs)
+    (λ c. search needs))
