@@ -9,12 +9,13 @@ use lib.ListN.{length, take, drop, length-append, length-take, length-drop}
 use lib.Seq.{take-append-add, take-append-le, length-take-le}
 use Rattle.cells.specs.View.{bookOf}
 use Rattle.dayrun_settled.specs.Settled.{longest}
-use Rattle.stream.specs.declared.Progress.{Progress}
-use Rattle.stream.specs.declared.Next.{Next}
-use Rattle.stream.specs.declared.Next.the-variants.{Take, Write, Read, End}
+use Rattle.dayrun_progress.specs.declared.Progress.{Progress}
+use Rattle.dayrun_progress.specs.declared.Next.{Next}
+use Rattle.dayrun_progress.specs.declared.Next.the-variants.{Take, Write, Read, End}
 use Rattle.dayrun_records.specs.Records.{startBook}
-use Rattle.stream.specs.Running.{textSize, nextOf, unread, startProgress, AnswersNext, wroteProgress, Fronted, receivedProgress, State, nextIn, begins, answers, writes, reads}
-use Rattle.stream.proofs.Nexts.{answering, reading-on}
+use Rattle.dayrun_progress.specs.States.{unread, textSize, nextOf, startProgress, wroteProgress, Fronted, receivedProgress}
+use Rattle.stream.specs.Running.{AnswersNext, State, nextIn, begins, answers, writes, reads}
+use Rattle.dayrun_progress.proofs.Nexts.{answering, reading-on}
 use Rattle.stream.proofs.Running.{writes-all}
 use Rattle.dayrun_loop.specs.Steps.{ReadsMore, stateOf, Steps, taking, writing, reading, ending, Turns, none, Arrives, reached, failed, Goes, Ends, all-written, cut-off, EndsWritten}
 

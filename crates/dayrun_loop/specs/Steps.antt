@@ -1,4 +1,4 @@
--- Each turn of the loop is the step that comes next, as `stream` describes it.
+-- Each turn of the loop is the step that comes next, as `dayrun_progress` and `stream` describe it.
 -- Assumes nothing.
 use Prim.Native.Nat.{ℕ, suc, _+_, _-_, _^_, _≤_, _<_}
 use mathlib.Core.Path.{_≡_}
@@ -7,12 +7,13 @@ use mathlib.Core.List.{List, [], _++_}
 use lib.ListN.{length, take}
 use Rattle.cells.specs.View.{bookOf}
 use Rattle.dayrun_settled.specs.Settled.{longest}
-use Rattle.stream.specs.declared.Progress.{Progress}
-use Rattle.stream.specs.declared.Next.{Next}
-use Rattle.stream.specs.declared.Next.the-variants.{Take, Write, Read, End}
+use Rattle.dayrun_progress.specs.declared.Progress.{Progress}
+use Rattle.dayrun_progress.specs.declared.Next.{Next}
+use Rattle.dayrun_progress.specs.declared.Next.the-variants.{Take, Write, Read, End}
 use Rattle.dayrun_records.specs.Records.{startBook}
+use Rattle.dayrun_progress.specs.States.{textSize, Fits, startProgress, wroteProgress, Fronted, receivedProgress}
 use Rattle.stream.specs.Input.{printed}
-use Rattle.stream.specs.Running.{textSize, Fits, startProgress, AnswersNext, wroteProgress, Fronted, receivedProgress, State, nextIn, Reaches}
+use Rattle.stream.specs.Running.{AnswersNext, State, nextIn, Reaches}
 
 -- ---- one step
 

@@ -1,15 +1,16 @@
-// The loop of the program `dayrun`: it reads standard input and writes standard output as `stream` says.
+// The loop of the program `dayrun`: it reads standard input and writes standard output as `dayrun_progress` and `stream` say.
 ghost use mathlib.Core.Path.{_≡_};
 ghost use Prim.Native.Nat.{_-_, _<_, _≤_};
 ghost use lib.ListN.{length};
 ghost use Rattle.cells.specs.View.{bookOf};
 ghost use Rattle.dayrun_records.specs.Records.{startBook};
 ghost use Rattle.dayrun_settled.specs.Settled.{longest};
-ghost use Rattle.stream.specs.Running.{textSize, Fits, nextIn};
+ghost use Rattle.dayrun_progress.specs.States.{textSize, Fits};
+ghost use Rattle.stream.specs.Running.{nextIn};
 ghost use Rattle.dayrun_loop.specs.Steps.{Wrote, ReadsMore, stateOf, Steps, Goes, Loops, Answered};
 use cells::Book;
-use stream::Next;
-use stream::Progress;
+use dayrun_progress::Next;
+use dayrun_progress::Progress;
 
 // The bytes of the buffer for the input.
 const INPUT: usize = 65536;
@@ -20,7 +21,7 @@ fn write_lines(progress: Progress, text: &[u8]) -> Progress
     ensures { λ r. ⌜ Wrote progress r ⌝ }
 {
     let filled = progress.filled;
-    stream::wrote(
+    dayrun_progress::wrote(
         progress,
         io::write_all(libc::STDOUT_FILENO, &text[..filled]),
     )
@@ -31,10 +32,10 @@ fn read_more(buffer: &mut [u8], progress: Progress) -> Progress
     requires { ⌜ Fits (now buffer) progress × ((progress .to - progress .from < longest) × (longest ≤ length (now buffer))) ⌝ }
     ensures { λ r. ⌜ ReadsMore (now (buffer .entry)) progress r (now (buffer .exit)) ⌝ }
 {
-    let moved = stream::to_front(buffer, progress);
+    let moved = dayrun_progress::to_front(buffer, progress);
     let to = moved.to;
     let got = libc::read(libc::STDIN_FILENO, &mut buffer[to..]);
-    stream::received(moved, io::count(got, &buffer[to..]))
+    dayrun_progress::received(moved, io::count(got, &buffer[to..]))
 }
 
 // Takes the step that comes next.
@@ -63,12 +64,12 @@ fn answer_all(book: &mut Book) -> bool
 {
     let mut input = [0u8; INPUT];
     let buffer: &mut [u8] = &mut input;
-    let mut lines = [0u8; stream::TEXT];
+    let mut lines = [0u8; dayrun_progress::TEXT];
     let text: &mut [u8] = &mut lines;
-    let mut progress = stream::start();
+    let mut progress = dayrun_progress::start();
     let mut turns = u64::MAX;
     while turns > 0 {
-        let next = stream::what_next(buffer, progress);
+        let next = dayrun_progress::what_next(buffer, progress);
         if let Next::End = next {
             return true;
         }

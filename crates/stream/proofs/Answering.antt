@@ -13,9 +13,10 @@ use Rattle.rules.specs.declared.ReplyNumbers.{ReplyNumbers}
 use Rattle.cells.specs.View.{bookOf}
 use Rattle.lines.specs.Text.{lineOf, Put}
 use Rattle.dayrun_records.specs.declared.Taken.{Taken}
-use Rattle.stream.specs.declared.Progress.{Progress}
+use Rattle.dayrun_progress.specs.declared.Progress.{Progress}
 use Rattle.dayrun_records.specs.Records.{atFront, Takes}
-use Rattle.stream.specs.Running.{unread, textSize, lineSize, Fits, AnswersNext}
+use Rattle.dayrun_progress.specs.States.{unread, textSize, lineSize, Fits}
+use Rattle.stream.specs.Running.{AnswersNext}
 
 -- a text stored behind those collected
 stored : (text line text′ : List ℕ) (at most w : ℕ) → at + most ≤ length text → Put most text at line w text′ → take w text′ ≡ take at text ++ line

@@ -1,5 +1,3 @@
-pub mod Nexts
-pub mod Running
 pub mod Answering
-pub mod Fronts
+pub mod Running
 pub mod Example

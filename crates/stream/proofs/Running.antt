@@ -15,17 +15,18 @@ use Rattle.rules.specs.Records.{RecordReply, readerRefuses}
 use Rattle.rules.proofs.Records.{reading-by, readable}
 use Rattle.cells.specs.View.{bookOf}
 use Rattle.lines.specs.Text.{lineOf}
-use Rattle.stream.specs.declared.Progress.{Progress}
-use Rattle.stream.specs.declared.Next.the-variants.{Take, Write, Read}
+use Rattle.dayrun_progress.specs.declared.Progress.{Progress}
+use Rattle.dayrun_progress.specs.declared.Next.the-variants.{Take, Write, Read}
 use Rattle.dayrun_records.specs.Records.{Outcome, startBook, atFront}
 use Rattle.dayrun_settled.specs.Settled.{Bytes}
-use Rattle.stream.specs.Input.{answerable, following, linesIn, linesOf}
-use Rattle.stream.specs.Running.{unread, collected, answeredProgress, AnswersNext, wroteProgress, Fronted, receivedProgress, State, nextIn, Reaches, begins, answers, writes, reads, WritesAll, WritesAtOnce, WaitsWhereOpen}
+use Rattle.dayrun_progress.specs.States.{unread, collected, answerable, wroteProgress, Fronted, receivedProgress}
+use Rattle.stream.specs.Input.{following, linesIn, linesOf}
+use Rattle.stream.specs.Running.{answeredProgress, AnswersNext, State, nextIn, Reaches, begins, answers, writes, reads, WritesAll, WritesAtOnce, WaitsWhereOpen}
 use Rattle.dayrun_records.proofs.Taking.{front-read, front-refused}
 use Rattle.dayrun_settled.proofs.Patterns.{nothing-open}
 use Rattle.dayrun_settled.proofs.Front.{end-least}
 use Rattle.dayrun_settled.proofs.Settled.{settled-stays, unsettled-open, settled-more}
-use Rattle.stream.proofs.Nexts.{answering, reading-on, ending}
+use Rattle.dayrun_progress.proofs.Nexts.{answering, reading-on, ending}
 
 -- ---- the lines of an input
 

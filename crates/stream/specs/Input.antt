@@ -3,16 +3,12 @@
 use Prim.Native.Nat.{ℕ, zero, suc, _+_, _%_, _^_}
 use mathlib.Core.Bool.{Bool, true, cond}
 use mathlib.Core.List.{List, [], _++_}
-use lib.Dec.{eqb, ltb}
+use lib.Dec.{eqb}
 use lib.ListN.{length, drop}
 use Rattle.rules.specs.Book.{Book}
-use Rattle.dayrun_settled.specs.Settled.{settled}
+use Rattle.dayrun_progress.specs.States.{answerable}
 use Rattle.lines.specs.Text.{lineOf}
 use Rattle.dayrun_records.specs.Records.{atFront}
-
--- once the input has ended, any bytes that are left are answered; before, a record that is settled
-unfoldable pub answerable : Bool → List ℕ → Bool
-answerable ended s = cond ended (ltb 0 (length s)) (settled s)
 
 -- positions are numbers of 64 bits
 abbrev pub following : ℕ → ℕ

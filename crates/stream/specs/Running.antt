@@ -1,59 +1,22 @@
--- The program's state and steps, and what they write, however the input comes in parts.
+-- The step that answers a record, all steps in a row, and what they write, however the input comes in parts.
 -- Assumes nothing.
-use Prim.Native.Nat.{ℕ, _+_, _-_, _≤_, _<_}
+use Prim.Native.Nat.{ℕ, _+_}
 use mathlib.Core.Path.{_≡_}
-use mathlib.Core.Bool.{Bool, true, false, cond, _||_, _&&_, not}
+use mathlib.Core.Bool.{true, false}
 use mathlib.Core.List.{List, [], _∷_, _++_}
-use lib.Dec.{eqb, leb, ltb}
-use lib.ListN.{length, take, drop}
+use lib.Dec.{eqb}
+use lib.ListN.{length, take}
 use Rattle.cells.specs.View.{bookOf}
 use Rattle.lines.specs.Text.{lineOf}
-use Rattle.stream.specs.declared.Progress.{Progress}
-use Rattle.stream.specs.declared.Next.{Next}
-use Rattle.stream.specs.declared.Next.the-variants.{Take, Write, Read, End}
+use Rattle.dayrun_progress.specs.declared.Progress.{Progress}
+use Rattle.dayrun_progress.specs.declared.Next.{Next}
+use Rattle.dayrun_progress.specs.declared.Next.the-variants.{Take, Write, Read, End}
+use Rattle.dayrun_progress.specs.States.{unread, collected, Fits, nextOf, startProgress, wroteProgress, Fronted, receivedProgress}
 use Rattle.dayrun_records.specs.Records.{Outcome, startBook, atFront}
 use Rattle.dayrun_settled.specs.Settled.{Bytes, Open}
-use Rattle.stream.specs.Input.{answerable, following, linesOf, printed}
+use Rattle.stream.specs.Input.{following, linesOf, printed}
 
--- ---- the state
-
--- the bytes that were read from the input and not yet taken
-abbrev pub unread : List ℕ → Progress → List ℕ
-unread buffer progress = take (progress .to - progress .from) (drop (progress .from) buffer)
-
--- the lines that wait to be written
-abbrev pub collected : List ℕ → Progress → List ℕ
-collected text progress = take (progress .filled) text
-
--- how many bytes of lines are collected at most
-abbrev pub textSize : ℕ
-textSize = 4096
-
--- no line has more bytes
-abbrev pub lineSize : ℕ
-lineSize = 84
-
--- its positions lie in the buffer and in the text
-pub record Fits (buffer : List ℕ) (progress : Progress) : Type 0 where
-  pub ordered : progress .from ≤ progress .to
-  pub inside : progress .to ≤ length buffer
-  pub room : progress .filled ≤ textSize
-
--- ---- what comes next
-
--- the program goes on, a line more fits the text, and the next record can be answered
-abbrev pub ready : List ℕ → Progress → Bool
-ready bytes progress = not (progress .done) && leb (progress .filled + lineSize) textSize && answerable (progress .ended) bytes
-
--- that record; else the collected lines are written; else the end, or a read
-unfoldable pub nextOf : List ℕ → Progress → Next
-nextOf bytes progress = cond (ready bytes progress) Take (cond (ltb 0 (progress .filled)) Write (cond (progress .done || progress .ended) End Read))
-
--- ---- the steps
-
--- nothing is read, and the first position is 1
-abbrev pub startProgress : Progress
-startProgress = record { from = 0; to = 0; position = 1; ended = false; done = false; filled = 0 }
+-- ---- a record
 
 -- after a record with this outcome was answered: a 1 is the last
 abbrev pub answeredProgress : Progress → Outcome → Progress
@@ -74,27 +37,6 @@ pub record AnswersNext (before buffer : List ℕ) (progress : Progress) (text : 
   pub moved : r ≡ answeredProgress progress (atFront (bookOf before) (unread buffer progress))
   pub fits : Fits buffer r
   pub bytes : Bytes (unread buffer progress)
-
--- the lines were written; where they couldn't be, the program is done
-abbrev pub wroteProgress : Progress → Bool → Progress
-wroteProgress progress written =
-    record { from = progress .from; to = progress .to; position = progress .position; ended = progress .ended; done = progress .done || not written; filled = 0 }
-
--- the same unread bytes, from the front of the buffer on
-abbrev pub frontProgress : Progress → Progress
-frontProgress progress =
-    record { from = 0; to = progress .to - progress .from; position = progress .position; ended = progress .ended; done = progress .done; filled = progress .filled }
-
--- the unread bytes are at the front of the buffer
-pub record Fronted (before : List ℕ) (progress r : Progress) (after : List ℕ) : Type 0 where
-  pub moved : r ≡ frontProgress progress
-  pub front : take (r .to) after ≡ unread before progress
-  pub fits : Fits after r
-
--- a read brought some bytes more; none is the end of the input
-abbrev pub receivedProgress : Progress → ℕ → Progress
-receivedProgress progress more =
-    record { from = progress .from; to = progress .to + more; position = progress .position; ended = eqb more 0; done = progress .done; filled = progress .filled }
 
 -- ---- steps in a row
 

@@ -3,7 +3,7 @@
 use mathlib.Core.Path.{sym, _∙_}
 use native.Mathlib.Omega.{arith}
 use borrow.Author.Needs.{needs}
-use Rattle.stream.proofs.Nexts.{answering, few-unread}
+use Rattle.dayrun_progress.proofs.Nexts.{answering, few-unread}
 use Rattle.dayrun_loop.specs.Steps.{taking, writing, reading, ending}
 use Rattle.dayrun_loop.proofs.go_on.Statement.{statement}
 use Rattle.dayrun_loop.proofs.go_on.Tie as tie

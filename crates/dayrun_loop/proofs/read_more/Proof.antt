@@ -3,7 +3,7 @@
 use mathlib.Core.Path.{ap}
 use native.Mathlib.Omega.{arith}
 use borrow.Author.Needs.{needs}
-use Rattle.stream.specs.declared.Progress.{Progress}
+use Rattle.dayrun_progress.specs.declared.Progress.{Progress}
 use Rattle.dayrun_loop.proofs.Steps.{reads-more}
 use Rattle.dayrun_loop.proofs.read_more.Statement.{statement}
 use Rattle.dayrun_loop.proofs.read_more.Tie as tie

@@ -1,4 +1,4 @@
--- `stream::to_front` meets its contract.
+-- `dayrun_progress::to_front` meets its contract.
 -- Assumes nothing.
 use Prim.Native.Nat.{_-_}
 use mathlib.Core.Path.{_≡_}
@@ -6,10 +6,10 @@ use native.Mathlib.Omega.{arith}
 use borrow.Author.Needs.{needs}
 use denote.Ref.{now}
 use lib.ListN.{length, take}
-use Rattle.stream.specs.Running.{unread}
-use Rattle.stream.proofs.Fronts.{kept-size, first-copy, second-copy}
-use Rattle.stream.proofs.to_front.Statement.{statement}
-use Rattle.stream.proofs.to_front.Tie as tie
+use Rattle.dayrun_progress.specs.States.{unread}
+use Rattle.dayrun_progress.proofs.Fronts.{kept-size, first-copy, second-copy}
+use Rattle.dayrun_progress.proofs.to_front.Statement.{statement}
+use Rattle.dayrun_progress.proofs.to_front.Tie as tie
 
 -- what the first copy holds
 held : (c : tie.After-copy) → let a = c .before .before .before .before .before .args in take (c .copy .result) (c .copy .last .1 .0) ≡ unread (now (a .buffer)) (a .progress)

@@ -1,8 +1,8 @@
--- `stream::wrote` meets its contract.
+-- `dayrun_progress::wrote` meets its contract.
 -- Assumes nothing.
 use mathlib.Core.Path.{refl}
-use Rattle.stream.proofs.wrote.Statement.{statement}
-use Rattle.stream.proofs.wrote.Tie as tie
+use Rattle.dayrun_progress.proofs.wrote.Statement.{statement}
+use Rattle.dayrun_progress.proofs.wrote.Tie as tie
 
 returns : tie.Need-returns
 returns c = rw (c .if1 .taken) refl

@@ -10,12 +10,11 @@ use lib.Dec.{leb, ltb}
 use lib.ListN.{drop, length-drop}
 use lib.Seq.{length-take-le}
 use borrow.Author.Tests.{lt-ltb, le-ltb, leb-true, ltb-false}
-use Rattle.stream.specs.declared.Progress.{Progress}
-use Rattle.stream.specs.declared.Next.{Next}
-use Rattle.stream.specs.declared.Next.the-variants.{Take, Write, Read, End}
+use Rattle.dayrun_progress.specs.declared.Progress.{Progress}
+use Rattle.dayrun_progress.specs.declared.Next.{Next}
+use Rattle.dayrun_progress.specs.declared.Next.the-variants.{Take, Write, Read, End}
 use Rattle.dayrun_settled.specs.Settled.{longest}
-use Rattle.stream.specs.Input.{answerable}
-use Rattle.stream.specs.Running.{unread, textSize, lineSize, Fits, ready, nextOf}
+use Rattle.dayrun_progress.specs.States.{unread, textSize, lineSize, Fits, answerable, ready, nextOf}
 use Rattle.dayrun_settled.proofs.Settled.{unsettled-few}
 
 -- tells the four apart

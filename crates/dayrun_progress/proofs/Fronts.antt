@@ -6,8 +6,8 @@ use mathlib.Core.List.{List, _++_}
 use native.Mathlib.Omega.{arith}
 use lib.ListN.{length, take, drop, length-append, length-drop}
 use lib.Seq.{take-length, take-at, length-take-le}
-use Rattle.stream.specs.declared.Progress.{Progress}
-use Rattle.stream.specs.Running.{unread, Fits, Fronted}
+use Rattle.dayrun_progress.specs.declared.Progress.{Progress}
+use Rattle.dayrun_progress.specs.States.{unread, Fits, Fronted}
 
 -- the first copy holds them
 pub first-copy : (kept rest rest′ : List ℕ) (n : ℕ) → n ≡ length kept → rest′ ≡ take (length kept) kept ++ drop (length kept) rest → take n rest′ ≡ kept

@@ -1,10 +1,10 @@
--- `stream::what_next` meets its contract.
+-- `dayrun_progress::what_next` meets its contract.
 -- Assumes nothing.
 use mathlib.Core.Path.{sym, _∙_}
 use borrow.Author.Needs.{needs}
-use Rattle.stream.proofs.Nexts.{to-take, to-write, to-end-done, to-end-ended, to-read}
-use Rattle.stream.proofs.what_next.Statement.{statement}
-use Rattle.stream.proofs.what_next.Tie as tie
+use Rattle.dayrun_progress.proofs.Nexts.{to-take, to-write, to-end-done, to-end-ended, to-read}
+use Rattle.dayrun_progress.proofs.what_next.Statement.{statement}
+use Rattle.dayrun_progress.proofs.what_next.Tie as tie
 
 returns : tie.Need-returns
 returns c = to-take _ _ (sym (c .before .is-ready .ensures) ∙ c .if1 .taken)

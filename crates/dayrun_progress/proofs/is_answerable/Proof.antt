@@ -1,10 +1,10 @@
--- `stream::is_answerable` meets its contract.
+-- `dayrun_progress::is_answerable` meets its contract.
 -- Assumes nothing.
 use mathlib.Core.Path.{refl}
 use borrow.Author.Needs.{needs}
-use Rattle.stream.specs.Input.{answerable}
-use Rattle.stream.proofs.is_answerable.Statement.{statement}
-use Rattle.stream.proofs.is_answerable.Tie as tie
+use Rattle.dayrun_progress.specs.States.{answerable}
+use Rattle.dayrun_progress.proofs.is_answerable.Statement.{statement}
+use Rattle.dayrun_progress.proofs.is_answerable.Tie as tie
 
 returns : tie.Need-returns
 unfolding answerable

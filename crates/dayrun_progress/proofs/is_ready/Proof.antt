@@ -1,10 +1,10 @@
--- `stream::is_ready` meets its contract.
+-- `dayrun_progress::is_ready` meets its contract.
 -- Assumes nothing.
 use mathlib.Core.Path.{refl}
 use borrow.Author.Needs.{needs}
 use borrow.Author.Tests.{not-true, not-false}
-use Rattle.stream.proofs.is_ready.Statement.{statement}
-use Rattle.stream.proofs.is_ready.Tie as tie
+use Rattle.dayrun_progress.proofs.is_ready.Statement.{statement}
+use Rattle.dayrun_progress.proofs.is_ready.Tie as tie
 
 returns : tie.Need-returns
 returns c = rw (← c .before .has-room .ensures, not-true (c .before .has-room .result) (c .if1 .taken)) refl

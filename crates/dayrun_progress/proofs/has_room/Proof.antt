@@ -1,9 +1,9 @@
--- `stream::has_room` meets its contract.
+-- `dayrun_progress::has_room` meets its contract.
 -- Assumes nothing.
 use mathlib.Core.Path.{refl}
 use borrow.Author.Needs.{needs}
-use Rattle.stream.proofs.has_room.Statement.{statement}
-use Rattle.stream.proofs.has_room.Tie as tie
+use Rattle.dayrun_progress.proofs.has_room.Statement.{statement}
+use Rattle.dayrun_progress.proofs.has_room.Tie as tie
 
 returns : tie.Need-returns
 returns c = rw (c .if1 .taken) refl
