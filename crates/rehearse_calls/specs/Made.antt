@@ -47,16 +47,14 @@ matchOf given = Match (fourAt given 0) (byteAt given 1) (byteAt given 2)
 abbrev pub directionOf : List ℕ → Call
 directionOf given = AddDirection (byteAt given 0) (byteAt given 1) (byteAt given 2)
 
+-- by the kind of the line, 4 to 7
+unfoldable pub timedCall : ℕ → Bool → List ℕ → Call
+timedCall kind isProfile given = cond (eqb kind 4) (offerOf isProfile given) (cond (eqb kind 5) (bidOf given) (cond (eqb kind 6) (nominateOf given) (matchOf given)))
+
 -- by the kind of the line, 1 to 7
 unfoldable pub lineCall : ℕ → Bool → List ℕ → ℕ → List ℕ → Call
 lineCall kind isProfile given map code =
     cond
     (eqb kind 1)
     (directionOf given)
-    (cond
-    (eqb kind 2)
-    (AddProfile map)
-    (cond
-    (eqb kind 3)
-    (AddParty code (byteAt given 0))
-    (cond (eqb kind 4) (offerOf isProfile given) (cond (eqb kind 5) (bidOf given) (cond (eqb kind 6) (nominateOf given) (matchOf given))))))
+    (cond (eqb kind 2) (AddProfile map) (cond (eqb kind 3) (AddParty code (byteAt given 0)) (timedCall kind isProfile given)))

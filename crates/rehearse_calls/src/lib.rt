@@ -2,7 +2,7 @@
 ghost use mathlib.Core.Path.{_≡_};
 ghost use Prim.Native.Nat.{_≤_};
 ghost use Rattle.answers.specs.Promises.{Opens, Answers, ReadsDirection, ReadsProfile, ReadsRight, ReadsConfirmed};
-ghost use Rattle.rehearse_calls.specs.Made.{byteAt, twoAt, fiveFrom, offerOf, bidOf, nominateOf, matchOf, directionOf, lineCall};
+ghost use Rattle.rehearse_calls.specs.Made.{byteAt, twoAt, fiveFrom, offerOf, bidOf, nominateOf, matchOf, directionOf, timedCall, lineCall};
 use answers::ConfirmedRead;
 use answers::LeftRead;
 use answers::RightRead;
@@ -89,6 +89,22 @@ fn match_session(book: &mut Book, given: [u64; 10]) -> Answer
     daybook::match_session(book, time, direction, session)
 }
 
+// By the kind of the line, from an offer to a matching.
+fn timed_call(book: &mut Book, kind: usize, profile: bool, given: [u64; 10]) -> Answer
+    ensures { λ r. ⌜ Answers (now (book .entry)) (timedCall kind profile given) r (now (book .exit)) ⌝ }
+{
+    if kind == rehearse_lines::OFFER {
+        return offer(book, profile, given);
+    }
+    if kind == rehearse_lines::BID {
+        return bid(book, given);
+    }
+    if kind == rehearse_lines::NOMINATE {
+        return nominate(book, given);
+    }
+    match_session(book, given)
+}
+
 // By the kind of the line, from a direction to a matching.
 pub fn call(
     book: &mut Book,
@@ -109,16 +125,7 @@ pub fn call(
     if kind == rehearse_lines::PARTY {
         return daybook::add_party(book, code, (given[0] % 256) as u8);
     }
-    if kind == rehearse_lines::OFFER {
-        return offer(book, profile, given);
-    }
-    if kind == rehearse_lines::BID {
-        return bid(book, given);
-    }
-    if kind == rehearse_lines::NOMINATE {
-        return nominate(book, given);
-    }
-    match_session(book, given)
+    timed_call(book, kind, profile, given)
 }
 
 // ---- reads

@@ -2,6 +2,9 @@
 use crate::PATTERNS;
 use crate::past_letters;
 use rehearse_text::byte_at;
+use rehearse_text::fill_entry;
+use rehearse_text::is_letter;
+use rehearse_text::none;
 use rehearse_text::put;
 use rehearse_text::put_part;
 use std::num::wrapping_add_usize;
@@ -18,21 +21,30 @@ fn put_words(text: &mut [u8], at: usize, table: &[u8], place: usize) -> usize {
     put_part(text, or, table, second, past_letters(table, second))
 }
 
-// By the mark of the pattern. Past the patterns no line begins.
-fn put_mark(text: &mut [u8], at: usize, table: &[u8], place: usize) -> usize {
-    match byte_at(table, place) {
-        b'1' | b'2' | b'4' | b'?' | b'*' | b'+' => put(text, at, b"a number"),
-        b',' => put(text, at, b"a comma"),
-        b':' => put(text, at, b"a colon"),
-        b'@' => put(text, at, b"a code of 16 characters"),
-        b'=' => put(text, at, b"the end of the line"),
-        b' ' => put(
-            text,
-            at,
-            b"open, direction, profile, party, offer, bid, nominate, match, left, right or confirmed",
-        ),
-        _ => put_words(text, at, table, place),
+// In the order of the numbers below; the last is for the patterns' end, where no line begins.
+const WANTED: [u8; 156] = *b"\
+    a number;a comma;a colon;a code of 16 characters;the end of the line;\
+    open, direction, profile, party, offer, bid, nominate, match, left, right or confirmed;\
+";
+
+fn entry_of(mark: u8) -> usize {
+    match mark {
+        b',' => 1,
+        b':' => 2,
+        b'@' => 3,
+        b'=' => 4,
+        b' ' => 5,
+        _ => 0,
     }
+}
+
+// By the mark of the pattern.
+fn put_mark(text: &mut [u8], at: usize, table: &[u8], place: usize) -> usize {
+    let mark = byte_at(table, place);
+    if is_letter(mark) {
+        return put_words(text, at, table, place);
+    }
+    fill_entry(text, at, &WANTED, entry_of(mark), none(), 0)
 }
 
 pub fn put_wanted(text: &mut [u8], at: usize, place: usize) -> usize {
