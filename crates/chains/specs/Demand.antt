@@ -20,7 +20,7 @@ use Rattle.answers.specs.declared.LeftRead.{LeftRead}
 use Rattle.answers.specs.declared.RightRead.{RightRead}
 use Rattle.answers.specs.declared.ConfirmedRead.{ConfirmedRead}
 use Rattle.answers.specs.Promises.{Opens, ReadsDirection, ReadsProfile, ReadsRight, ReadsConfirmed, saidLeft, saidRight, saidConfirmed}
-use Rattle.daybook.specs.Chains.{Chain}
+use Rattle.chains.specs.Chains.{Chain}
 
 -- what these reads answer in hour k of the session, for all the pairs under right r together
 unfoldable pub confirmedSum : (Key → ConfirmedRead) → ℕ → ℕ → List Key → ℕ

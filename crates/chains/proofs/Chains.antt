@@ -16,8 +16,8 @@ use Rattle.rules.proofs.Demand.{demand3}
 use Rattle.cells.specs.View.{bookOf}
 use Rattle.answers.specs.declared.ConfirmedRead.{ConfirmedRead}
 use Rattle.answers.specs.Promises.{Opens, ReadsConfirmed}
-use Rattle.daybook.specs.Chains.{Chain, done, next}
-use Rattle.daybook.specs.Demand.{confirmedSum, ProgramDemand3}
+use Rattle.chains.specs.Chains.{Chain, done, next}
+use Rattle.chains.specs.Demand.{confirmedSum, ProgramDemand3}
 
 record Follows (b : Book) (cs : List Call) (rs : List Answer) (last : List ℕ) : Type 0 where
   replies : run b cs .replies ≡ map said rs
