@@ -54,7 +54,7 @@ fn outside(book: &Book, model: u32, session: Session, time: u32) -> bool
 {
     let hours = cells::hours(book);
     let weekday = cells::weekday(book);
-    day::bid_outside(hours, weekday, model, session, time)
+    windows::bid_outside(hours, weekday, model, session, time)
 }
 
 // MW for an hour that the session lacks, or none at all.

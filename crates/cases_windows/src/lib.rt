@@ -111,10 +111,10 @@ fn is_inside(place: Place, window: usize, minute: u32) -> bool {
     let weekday = place.weekday;
     let model = place.model;
     match window {
-        BIDS => !day::bid_outside(hours, weekday, model, session, minute),
-        NOMINATIONS => !day::nomination_outside(hours, weekday, model, session, minute),
-        MATCHING => !day::matching_outside(hours, weekday, model, session, minute),
-        _ => !day::offer_outside(hours, weekday, model, Hour(place.hour), minute),
+        BIDS => !windows::bid_outside(hours, weekday, model, session, minute),
+        NOMINATIONS => !windows::nomination_outside(hours, weekday, model, session, minute),
+        MATCHING => !windows::matching_outside(hours, weekday, model, session, minute),
+        _ => !windows::offer_outside(hours, weekday, model, Hour(place.hour), minute),
     }
 }
 

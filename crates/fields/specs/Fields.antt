@@ -40,6 +40,6 @@ pub record MwOf (c : CallRecord) (r : List ℕ) : Type 0 where
   pub each : (i : ℕ) → getD r i 0 < 65536
   pub fits : CallFits c
 
--- the reader's tests of a map and the values that were read by it, after what was tested before
-abbrev pub mapRefused : Bool → ℕ → List ℕ → Bool
-mapRefused before map vs = before || bit map 15 || not (isKind (getD vs 0 0)) || not (eqb map (mapFor (getD vs 0 0) vs))
+-- the reader's tests of a map and the values that were read by it
+abbrev pub mapRefused : ℕ → List ℕ → Bool
+mapRefused map vs = bit map 15 || not (isKind (getD vs 0 0)) || not (eqb map (mapFor (getD vs 0 0) vs))

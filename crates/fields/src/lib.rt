@@ -1,6 +1,6 @@
 // The fields of a call record: the tables of their widths and of the kinds, and a call as its fields.
 ghost use mathlib.Core.Path.{_≡_};
-ghost use mathlib.Core.Bool.{false, _||_, _&&_, not};
+ghost use mathlib.Core.Bool.{_||_, _&&_, not};
 ghost use Prim.Native.Nat.{_<_};
 ghost use lib.Dec.{eqb};
 ghost use Rattle.rules.specs.Basics.{bit, has};
@@ -208,7 +208,7 @@ pub fn any_foreign(kind: u32, values: Fields) -> bool
 
 // The map has bit 15, the kind is none, or the map is not that of the kind with the values.
 pub fn map_refused(map: u32, values: Fields) -> bool
-    ensures { λ r. ⌜ r ≡ mapRefused false map values ⌝ }
+    ensures { λ r. ⌜ r ≡ mapRefused map values ⌝ }
 {
     let kind = values[0];
     if has_bit(map, 15) {

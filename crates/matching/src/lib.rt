@@ -41,7 +41,7 @@ fn outside(book: &Book, model: u32, session: Session, time: u32) -> bool
 {
     let hours = cells::hours(book);
     let weekday = cells::weekday(book);
-    day::matching_outside(hours, weekday, model, session, time)
+    windows::matching_outside(hours, weekday, model, session, time)
 }
 
 fn match_verdict(book: &Book, time: u32, direction: u8, session: Session) -> Verdict

@@ -109,7 +109,7 @@ fn outside(book: &Book, right: u16, time: u32) -> bool
     let weekday = cells::weekday(book);
     let model = right_model(book, right);
     let session = cells::right_session(book, right);
-    day::nomination_outside(hours, weekday, model, session, time)
+    windows::nomination_outside(hours, weekday, model, session, time)
 }
 
 // MW for an hour that the right's session lacks.

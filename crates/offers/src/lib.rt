@@ -45,7 +45,7 @@ fn outside(book: &Book, model: u32, hour: Hour, time: u32) -> bool
 {
     let hours = cells::hours(book);
     let weekday = cells::weekday(book);
-    day::offer_outside(hours, weekday, model, hour, time)
+    windows::offer_outside(hours, weekday, model, hour, time)
 }
 
 // Under the MW granted there.

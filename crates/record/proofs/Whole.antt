@@ -1,16 +1,17 @@
 -- A whole record: what the parts of the reader and the writer find and store is what they promise.
 -- Assumes nothing.
 use Prim.Native.Nat.{ℕ, _+_, _<_, _≤_}
-use mathlib.Core.Path.{_≡_, sym, ap, _∙_}
+use mathlib.Core.Path.{_≡_, refl, sym, ap, _∙_}
 use mathlib.Core.Bool.{Bool, true, false, _||_, not}
 use mathlib.Core.List.{List, _++_}
 use native.Mathlib.Omega.{arith}
 use native.Mathlib.Nat.{zero-add}
-use lib.Dec.{ltb}
+use lib.Dec.{ltb, eqb}
 use lib.ListN.{length, getD, length-append}
 use lib.Seq.{sets, sets-eq}
 use borrow.Author.Tests.{ltb-false}
-use Rattle.rules.specs.Records.{widths, fieldsOf, callOf, kindAt, isKind, mapFor, foreign, bytesOf, body, recordOf, writerRefuses, Written, mapAt, fieldsIn, readerRefuses, noCall}
+use Rattle.rules.specs.Basics.{bit}
+use Rattle.rules.specs.Records.{widths, fieldsOf, callOf, kindAt, isKind, mapFor, foreign, bytesOf, body, recordOf, writerRefuses, Written, mapAt, fieldsIn, endIn, readerRefuses, noCall}
 use Rattle.rules.specs.declared.Answer.the-variants.{Granted, Record}
 use Rattle.rules.specs.declared.CallRecord.{CallRecord}
 use Rattle.rules.proofs.Records.{bytes-length, neither, fields-below, reading-by, writing-by}
@@ -22,6 +23,10 @@ use Rattle.rules.proofs.Stores.{sets-append}
 
 -- ---- reading
 
+or-joined : (t a b c : Bool) → (t || (a || b || c)) ≡ (t || a || b || c)
+or-joined true a b c = refl
+or-joined false a b c = refl
+
 module _ (s : List ℕ) (f : Found) (e : Finds s f) (b : (i : ℕ) → getD s i 0 < 256) where
   pub found-fits : FieldsFit (f .values)
   unfolding fieldsIn
@@ -29,7 +34,10 @@ module _ (s : List ℕ) (f : Found) (e : Finds s f) (b : (i : ℕ) → getD s i 
 
   reader-test : refusesFound f (length s) ≡ readerRefuses s 1
   unfolding readerRefuses
-  reader-test = rw (e .map-found, e .values-found, e .end-found)
+  reader-test =
+      let kind : ℕ = getD (fieldsIn s) 0 0 in
+      rw (e .map-found, e .values-found, e .end-found)
+      (or-joined (ltb (length s) 2 || ltb (length s) (endIn s)) (bit (mapAt s) 15) (not (isKind kind)) (not (eqb (mapAt s) (mapFor kind (fieldsIn s)))))
 
   pub read-refused : {c : CallRecord} {r : Bool} → c ≡ noCall → r ≡ refusesFound f (length s) → r ≡ true → Reads s (record { answer = Record; length = 0; call = c })
   read-refused h told t = record { bytes-fit = b; reply = rw h (sym (reading-by s true (sym (told ∙ reader-test) ∙ t))) }

@@ -18,7 +18,7 @@ pub record Finds (s : List ℕ) (r : Found) : Type 0 where
 
 -- the reader's tests, of what was found in bytes of a length
 abbrev pub refusesFound : Found → ℕ → Bool
-refusesFound f n = mapRefused (ltb n 2 || ltb n (f .end)) (f .map) (f .values)
+refusesFound f n = ltb n 2 || ltb n (f .end) || mapRefused (f .map) (f .values)
 
 -- the length of a kind's record with these values, which is not large
 pub record Length (kind : ℕ) (vs : List ℕ) (r : ℕ) : Type 0 where

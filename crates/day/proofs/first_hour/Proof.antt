@@ -2,18 +2,15 @@
 -- Assumes nothing.
 use Prim.Native.Nat.{ℕ, _<_}
 use mathlib.Core.Path.{_≡_, refl, sym, _∙_}
-use mathlib.Core.Bool.{Bool, true, false, _&&_, false≢true}
+use mathlib.Core.Bool.{Bool, true, false}
 use native.Mathlib.Omega.{arith}
 use borrow.Author.Needs.{needs}
 use borrow.Author.Tests.{leb-true}
 use lib.Dec.{ltb, leb, eqb}
 use Rattle.rules.specs.Sessions.{sessionThere, firstHour, firstHourThere}
+use Rattle.rules.proofs.Bools.{and-right}
 use Rattle.day.proofs.first_hour.Statement.{statement}
 use Rattle.day.proofs.first_hour.Tie as tie
-
-and-right : (a b : Bool) → (a && b) ≡ true → b ≡ true
-and-right true b e = e
-and-right false b e = absurd (false≢true e)
 
 first-fits : (n model session : ℕ) → n < 256 → session < 256 → sessionThere n model session ≡ true → firstHour n model session < 256
 unfolding sessionThere firstHour

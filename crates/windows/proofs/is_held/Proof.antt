@@ -1,10 +1,10 @@
--- `day::is_held` meets its contract: each branch by its test.
+-- `windows::is_held` meets its contract: each branch by its test.
 -- Assumes nothing.
 use borrow.Author.Tests.{eq-eqb, ne-eqb}
 use Rattle.rules.specs.Windows.{held}
 use borrow.Author.Needs.{needs}
-use Rattle.day.proofs.is_held.Statement.{statement}
-use Rattle.day.proofs.is_held.Tie as tie
+use Rattle.windows.proofs.is_held.Statement.{statement}
+use Rattle.windows.proofs.is_held.Tie as tie
 
 returns : tie.Need-returns
 unfolding held

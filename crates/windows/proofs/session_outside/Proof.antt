@@ -1,8 +1,8 @@
--- `day::session_outside` meets its contract: what its four workers say, put together.
+-- `windows::session_outside` meets its contract: what its four workers say, put together.
 -- Assumes nothing.
 use borrow.Author.Needs.{needs}
-use Rattle.day.proofs.session_outside.Statement.{statement}
-use Rattle.day.proofs.session_outside.Tie as tie
+use Rattle.windows.proofs.session_outside.Statement.{statement}
+use Rattle.windows.proofs.session_outside.Tie as tie
 
 returns : tie.Need-returns
 returns c = rw (c .is-within .ensures, c .before .gate-time .ensures, c .before .before .session-opens .ensures, c .before .before .before .first-number .ensures .0)

@@ -1,9 +1,9 @@
--- `day::offer_outside` meets its contract: the gate of the first hour of the session that holds the hour.
+-- `windows::offer_outside` meets its contract: the gate of the first hour of the session that holds the hour.
 -- Assumes nothing.
 use Rattle.rules.specs.Windows.{offerOutside, bidsClose}
 use borrow.Author.Needs.{needs}
-use Rattle.day.proofs.offer_outside.Statement.{statement}
-use Rattle.day.proofs.offer_outside.Tie as tie
+use Rattle.windows.proofs.offer_outside.Statement.{statement}
+use Rattle.windows.proofs.offer_outside.Tie as tie
 
 returns : tie.Need-returns
 unfolding offerOutside bidsClose

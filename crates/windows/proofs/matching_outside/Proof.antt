@@ -1,9 +1,9 @@
--- `day::matching_outside` meets its contract: the gate of the session's first hour.
+-- `windows::matching_outside` meets its contract: the gate of the session's first hour.
 -- Assumes nothing.
 use Rattle.rules.specs.Windows.{matchingOutside, matchingOpens}
 use borrow.Author.Needs.{needs}
-use Rattle.day.proofs.matching_outside.Statement.{statement}
-use Rattle.day.proofs.matching_outside.Tie as tie
+use Rattle.windows.proofs.matching_outside.Statement.{statement}
+use Rattle.windows.proofs.matching_outside.Tie as tie
 
 returns : tie.Need-returns
 unfolding matchingOutside matchingOpens

@@ -1,9 +1,9 @@
--- `day::nomination_outside` meets its contract: the shared window, closing at 1,290.
+-- `windows::nomination_outside` meets its contract: the shared window, closing at 1,290.
 -- Assumes nothing.
 use Rattle.rules.specs.Windows.{nominationOutside, nominationsClose}
 use borrow.Author.Needs.{needs}
-use Rattle.day.proofs.nomination_outside.Statement.{statement}
-use Rattle.day.proofs.nomination_outside.Tie as tie
+use Rattle.windows.proofs.nomination_outside.Statement.{statement}
+use Rattle.windows.proofs.nomination_outside.Tie as tie
 
 returns : tie.Need-returns
 unfolding nominationOutside nominationsClose

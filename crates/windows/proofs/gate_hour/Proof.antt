@@ -1,10 +1,10 @@
--- `day::gate_hour` meets its contract: each branch by its tests.
+-- `windows::gate_hour` meets its contract: each branch by its tests.
 -- Assumes nothing.
 use borrow.Author.Tests.{lt-ltb, le-ltb, eq-eqb, ne-eqb}
 use native.Mathlib.Omega.{arith}
 use Rattle.rules.specs.Windows.{gateHour}
-use Rattle.day.proofs.gate_hour.Statement.{statement}
-use Rattle.day.proofs.gate_hour.Tie as tie
+use Rattle.windows.proofs.gate_hour.Statement.{statement}
+use Rattle.windows.proofs.gate_hour.Tie as tie
 
 returns : tie.Need-returns
 unfolding gateHour

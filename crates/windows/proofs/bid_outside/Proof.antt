@@ -1,10 +1,10 @@
--- `day::bid_outside` meets its contract: the window and the hold, each as its worker says.
+-- `windows::bid_outside` meets its contract: the window and the hold, each as its worker says.
 -- Assumes nothing.
 use Rattle.rules.specs.Windows.{bidOutside, bidsClose}
 use mathlib.Core.Bool.{or-true, or-false}
 use borrow.Author.Needs.{needs}
-use Rattle.day.proofs.bid_outside.Statement.{statement}
-use Rattle.day.proofs.bid_outside.Tie as tie
+use Rattle.windows.proofs.bid_outside.Statement.{statement}
+use Rattle.windows.proofs.bid_outside.Tie as tie
 
 returns : tie.Need-returns
 unfolding bidOutside

@@ -1,9 +1,9 @@
--- `day::is_within` meets its contract: each branch by its test.
+-- `windows::is_within` meets its contract: each branch by its test.
 -- Assumes nothing.
 use borrow.Author.Tests.{le-leb, lt-leb}
 use Rattle.rules.specs.Windows.{within}
-use Rattle.day.proofs.is_within.Statement.{statement}
-use Rattle.day.proofs.is_within.Tie as tie
+use Rattle.windows.proofs.is_within.Statement.{statement}
+use Rattle.windows.proofs.is_within.Tie as tie
 
 returns : tie.Need-returns
 unfolding within

@@ -1,10 +1,10 @@
--- `day::session_opens` meets its contract: each branch by its test.
+-- `windows::session_opens` meets its contract: each branch by its test.
 -- Assumes nothing.
 use borrow.Author.Tests.{eq-eqb, ne-eqb}
 use Rattle.rules.specs.Windows.{opens}
 use borrow.Author.Needs.{needs}
-use Rattle.day.proofs.session_opens.Statement.{statement}
-use Rattle.day.proofs.session_opens.Tie as tie
+use Rattle.windows.proofs.session_opens.Statement.{statement}
+use Rattle.windows.proofs.session_opens.Tie as tie
 
 returns : tie.Need-returns
 unfolding opens
