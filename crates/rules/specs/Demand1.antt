@@ -6,7 +6,7 @@ use mathlib.Core.Path.{_≡_}
 use mathlib.Core.Bool.{Bool, true, false}
 use mathlib.Core.List.{List, [], _∷_}
 use Rattle.rules.specs.Book.{Book}
-use Rattle.rules.specs.Calls.{Call, isGrant}
+use Rattle.rules.specs.Calls.{Call, Reply, isGrant}
 use Rattle.rules.specs.Refusals.{order, refuses}
 use Rattle.rules.specs.Run.{applied}
 use Rattle.rules.specs.Opening.{openingRefuses, opening}
@@ -33,19 +33,23 @@ pub data Lowest (f : ℕ → Bool) : ℕ → Type 0 where
   granting : ((m : ℕ) → 1 ≤ m → m ≤ highest → f m ≡ false) → Lowest f 0
   refusing : (n : ℕ) → 1 ≤ n → n ≤ highest → f n ≡ true → ((m : ℕ) → 1 ≤ m → m < n → f m ≡ false) → Lowest f n
 
+-- the same of a whole reply, whose details are both 0
+abbrev pub NumberAlone : (ℕ → Bool) → Reply → Type 0
+NumberAlone f r = Lowest f (r .number) × ((r .first ≡ 0) × (r .second ≡ 0))
+
 pub record Demand1 : Type 0 where
   -- the order in which the conditions are asked is 01's: 1 to 15
   pub in-order : order ≡ upFrom 1 highest
   -- the calls of the list of demand 3
   pub calls : (b : Book) (c : Call) → Lowest (refuses b c) (applied b c .reply .number)
   pub calls-kept : (b : Book) (c : Call) → isGrant (applied b c .reply) ≡ false → applied b c .book ≡ b
-  pub openings : (n day : ℕ) → Lowest (openingRefuses n day) (opening n day .reply .number)
+  pub openings : (n day : ℕ) → NumberAlone (openingRefuses n day) (opening n day .reply)
   -- the reads
-  pub left-of-directions : (b : Book) (d hour : ℕ) → Lowest (directionReadRefuses b d hour) (readDirection b d hour .reply .number)
-  pub left-of-profiles : (b : Book) (p hour : ℕ) → Lowest (profileReadRefuses b p hour) (readProfile b p hour .reply .number)
-  pub rights : (b : Book) (r : ℕ) → Lowest (rightReadRefuses b r) (readRight b r .reply .number)
-  pub confirmed : (b : Book) (r o i : ℕ) → Lowest (confirmedReadRefuses b r o i) (readConfirmed b r o i .reply .number)
+  pub left-of-directions : (b : Book) (d hour : ℕ) → NumberAlone (directionReadRefuses b d hour) (readDirection b d hour .reply)
+  pub left-of-profiles : (b : Book) (p hour : ℕ) → NumberAlone (profileReadRefuses b p hour) (readProfile b p hour .reply)
+  pub rights : (b : Book) (r : ℕ) → NumberAlone (rightReadRefuses b r) (readRight b r .reply)
+  pub confirmed : (b : Book) (r o i : ℕ) → NumberAlone (confirmedReadRefuses b r o i) (readConfirmed b r o i .reply)
   -- the reader and the writer of records
-  pub readers : (s : List ℕ) → Lowest (readerRefuses s) (reading s .reply .number)
+  pub readers : (s : List ℕ) → NumberAlone (readerRefuses s) (reading s .reply)
   pub writers : (c : CallRecord) (buffer : List ℕ) → Lowest (writerRefuses c buffer) (writing c buffer .reply .number)
   pub writers-kept : (c : CallRecord) (buffer : List ℕ) → isGrant (writing c buffer .reply) ≡ false → writing c buffer .buffer ≡ buffer
