@@ -170,7 +170,7 @@ fn not_understood(end: usize, opened: bool) -> Turn {
 // The first digits of the number as it was written, without zeros before it.
 fn put_large(text: &mut [u8], at: usize, line: &[u8], from: usize) -> usize {
     let start = past_all(line, past_spaces(line, from), b'0');
-    let end = rehearse_text::digits_from(line, start).end;
+    let end = rehearse_numbers::digits_from(line, start).end;
     let most = std::num::wrapping_add_usize(start, 20);
     let told = put(text, at, b" -> too large: ");
     if most < end {

@@ -5,11 +5,11 @@
 // = begins the numbers expected, + stands for these, and ; ends the pattern.
 mod wanted;
 
-use rehearse_text::Digits;
+use rehearse_numbers::Digits;
+use rehearse_numbers::digits_from;
+use rehearse_numbers::fits;
 use rehearse_text::Numbers;
 use rehearse_text::byte_at;
-use rehearse_text::digits_from;
-use rehearse_text::fits;
 use rehearse_text::is_break;
 use rehearse_text::past_entry;
 use rehearse_text::past_spaces;

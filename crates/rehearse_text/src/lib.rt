@@ -1,11 +1,8 @@
-// The bytes of a line that is read, the numbers in it, and the text of an answer, which is collected in a lent buffer.
+// The bytes of a line that is read, numbers in a row, and the text of an answer, which is collected in a lent buffer.
 mod input;
 mod output;
 
-pub use input::Digits;
 pub use input::byte_at;
-pub use input::digits_from;
-pub use input::fits;
 pub use input::is_break;
 pub use input::is_letter;
 pub use input::past_all;

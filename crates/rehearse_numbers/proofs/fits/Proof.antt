@@ -1,8 +1,8 @@
--- `rehearse_text::input::fits` meets its contract.
+-- `rehearse_numbers::fits` meets its contract.
 -- Assumes nothing.
 use borrow.Author.Needs.{needs}
-use Rattle.rehearse_text.proofs.input.fits.Statement.{statement}
-use Rattle.rehearse_text.proofs.input.fits.Tie as tie
+use Rattle.rehearse_numbers.proofs.fits.Statement.{statement}
+use Rattle.rehearse_numbers.proofs.fits.Tie as tie
 
 returns : tie.Need-returns
 returns c = rw (c .limit-of .ensures)

@@ -1,8 +1,8 @@
--- `rehearse_text::input::is_digit` meets its contract.
+-- `rehearse_numbers::is_digit` meets its contract.
 -- Assumes nothing.
 use borrow.Author.Tests.{le-leb, lt-leb}
-use Rattle.rehearse_text.proofs.input.is_digit.Statement.{statement}
-use Rattle.rehearse_text.proofs.input.is_digit.Tie as tie
+use Rattle.rehearse_numbers.proofs.is_digit.Statement.{statement}
+use Rattle.rehearse_numbers.proofs.is_digit.Tie as tie
 
 returns : tie.Need-returns
 returns c = simp (le-leb _ _ (c .if1 .taken))

@@ -11,7 +11,7 @@ use lib.Dec.{leb, ltb}
 use lib.ListN.{length, getD, drop, drop-of-length-le}
 use lib.Seq.{drop-cons}
 use borrow.Author.Tests.{leb-true, le-ltb, ltb-true, ltb-false}
-use Rattle.rehearse_text.specs.Decimal.{isDigit, decimalOf, digitsIn, capped, Read}
+use Rattle.rehearse_numbers.specs.Decimal.{isDigit, decimalOf, digitsIn, capped, Read}
 
 pub digit-range : (b : ℕ) → isDigit b ≡ true → (48 ≤ b) × (b ≤ 57)
 digit-range b h = go (leb 48 b) refl h

@@ -1,10 +1,10 @@
--- `rehearse_text::input::cap` meets its contract.
+-- `rehearse_numbers::cap` meets its contract.
 -- Assumes nothing.
 use mathlib.Core.Path.{sym}
 use native.Mathlib.Omega.{arith}
-use Rattle.rehearse_text.proofs.Decimals.{small, large}
-use Rattle.rehearse_text.proofs.input.cap.Statement.{statement}
-use Rattle.rehearse_text.proofs.input.cap.Tie as tie
+use Rattle.rehearse_numbers.proofs.Decimals.{small, large}
+use Rattle.rehearse_numbers.proofs.cap.Statement.{statement}
+use Rattle.rehearse_numbers.proofs.cap.Tie as tie
 
 returns : tie.Need-returns
 returns c = small (c .before .args .number) (omega arith)

@@ -1,4 +1,4 @@
--- `rehearse_text::input::digits_from` meets its contract. The invariant: what is read so far and the digits from here on mean the same as all digits.
+-- `rehearse_numbers::digits_from` meets its contract. The invariant: what is read so far and the digits from here on mean the same as all digits.
 -- Assumes nothing.
 use Prim.Native.Nat.{_+_, _-_, _*_, _≤_}
 use mathlib.Core.Path.{_≡_, sym, _∙_}
@@ -6,10 +6,10 @@ use borrow.Author.Needs.{needs}
 use borrow.Author.Tests.{not-true, not-false}
 use native.Mathlib.Omega.{arith}
 use lib.ListN.{length, drop, getD}
-use Rattle.rehearse_text.specs.Decimal.{decimalOf, digitsIn, capped}
-use Rattle.rehearse_text.proofs.Decimals.{digit-range, digit-read, digit-counted, capped-small, at-end, at-other}
-use Rattle.rehearse_text.proofs.input.digits_from.Statement.{statement}
-use Rattle.rehearse_text.proofs.input.digits_from.Tie as tie
+use Rattle.rehearse_numbers.specs.Decimal.{decimalOf, digitsIn, capped}
+use Rattle.rehearse_numbers.proofs.Decimals.{digit-range, digit-read, digit-counted, capped-small, at-end, at-other}
+use Rattle.rehearse_numbers.proofs.digits_from.Statement.{statement}
+use Rattle.rehearse_numbers.proofs.digits_from.Tie as tie
 
 abbrev Inv-loop : tie.InvT-loop
 Inv-loop line from value₀ at₀ value at =

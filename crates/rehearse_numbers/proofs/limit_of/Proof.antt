@@ -1,8 +1,8 @@
--- `rehearse_text::input::limit_of` meets its contract.
+-- `rehearse_numbers::limit_of` meets its contract.
 -- Assumes nothing.
 use borrow.Author.Tests.{eq-eqb, ne-eqb}
-use Rattle.rehearse_text.proofs.input.limit_of.Statement.{statement}
-use Rattle.rehearse_text.proofs.input.limit_of.Tie as tie
+use Rattle.rehearse_numbers.proofs.limit_of.Statement.{statement}
+use Rattle.rehearse_numbers.proofs.limit_of.Tie as tie
 
 returns : tie.Need-returns
 returns c = simp (eq-eqb _ _ (c .if1 .taken))
