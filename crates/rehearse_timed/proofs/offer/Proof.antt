@@ -1,8 +1,8 @@
--- `rehearse_calls::offer` meets its contract.
+-- `rehearse_timed::offer` meets its contract.
 -- Assumes nothing.
 use borrow.Author.Needs.{needs}
-use Rattle.rehearse_calls.proofs.offer.Statement.{statement}
-use Rattle.rehearse_calls.proofs.offer.Tie as tie
+use Rattle.rehearse_timed.proofs.offer.Statement.{statement}
+use Rattle.rehearse_timed.proofs.offer.Tie as tie
 
 returns : tie.Need-returns
 returns c = rw (c .before .before .if1 .taken) (c .offer-profile .ensures)

@@ -1,10 +1,10 @@
--- `rehearse_calls::timed_call` meets its contract: the kinds are told one after the other.
+-- `rehearse_timed::timed_call` meets its contract: the kinds are told one after the other.
 -- Assumes nothing.
 use borrow.Author.Tests.{eq-eqb, ne-eqb}
-use Rattle.rehearse_calls.specs.Made.{timedCall}
+use Rattle.rehearse_timed.specs.Timed.{timedCall}
 use borrow.Author.Needs.{needs}
-use Rattle.rehearse_calls.proofs.timed_call.Statement.{statement}
-use Rattle.rehearse_calls.proofs.timed_call.Tie as tie
+use Rattle.rehearse_timed.proofs.timed_call.Statement.{statement}
+use Rattle.rehearse_timed.proofs.timed_call.Tie as tie
 
 returns : tie.Need-returns
 unfolding timedCall
