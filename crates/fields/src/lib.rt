@@ -1,4 +1,4 @@
-// The fields of a call record: the tables of their widths and of the kinds, and a call as its fields.
+// The fields of a call record: the tables of their widths and of the kinds, a call as its fields, the map of a kind, and the tests of a map.
 ghost use mathlib.Core.Path.{_≡_};
 ghost use mathlib.Core.Bool.{_||_, _&&_, not};
 ghost use Prim.Native.Nat.{_<_};

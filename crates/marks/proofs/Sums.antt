@@ -145,7 +145,7 @@ module _ (held total : ℕ) where
   pub mark-off : total ≤ held → (0 ≡ cond {A = ℕ} (ltb held total) 1 0) × (0 ≤ 1)
   mark-off l = rw (le-ltb held total l) (refl, omega arith)
 
--- bits put before others, the highest first
+-- the number whose n lowest bits are given, with `bits` above them
 unfoldable pub withBits : (ℕ → ℕ) → ℕ → ℕ → ℕ
 withBits bit zero bits = bits
 withBits bit (suc n) bits = withBits bit n (bit n + 2 * bits)

@@ -1,4 +1,4 @@
-// Parties: a party is added once, with a code and an access map. Its promise is an equation with the rules, whatever the cells hold.
+// The entry of a party, with its code and the map of its access. The promise is an equation with the rules, whatever the cells hold.
 use answers::Verdict;
 use cells::Book;
 use rules::Answer;

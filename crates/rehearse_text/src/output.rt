@@ -91,7 +91,7 @@ pub fn fill_entry(
     filled.at
 }
 
-// A form alone.
+// The same of a form that stands in no table; it has no semicolon.
 pub fn fill(text: &mut [u8], at: usize, form: &[u8], numbers: Numbers, first: usize) -> usize {
     fill_entry(text, at, form, 0, numbers, first)
 }

@@ -1,5 +1,5 @@
 -- Demand 1: a call is granted and no condition holds, or it is refused with the lowest number from 1 to 15 whose condition holds;
--- a refused call leaves the book, and a refused writing the buffer, as it was.
+-- a refused call leaves the book, and a refused writing the buffer, as it was. The details of an opening, a read and a reading of a record are 0.
 -- Assumes nothing.
 use Prim.Native.Nat.{ℕ, zero, suc, _≤_, _<_}
 use mathlib.Core.Path.{_≡_}

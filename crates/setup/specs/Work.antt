@@ -1,4 +1,4 @@
--- What the private functions of set-up promise: an entry that clashes with a new one, and the cells after a row more.
+-- What the parts of set-up promise: an entry that clashes with a new one, and the cells after a row more.
 -- Assumes nothing.
 use Prim.Native.Nat.{ℕ}
 use mathlib.Core.Path.{_≡_}

@@ -1,4 +1,4 @@
-// The stores in the cells of a day book: the cells that a granted call writes, in place.
+// The stores in the cells of a day book that the calls share.
 ghost use mathlib.Core.Path.{_≡_};
 ghost use Prim.Native.Nat.{_+_, _*_, _<_, _≤_};
 ghost use lib.ListN.{length, set};
@@ -45,7 +45,7 @@ pub fn clear(book: &mut Book, hours: u8, weekday: u8)
 }
 
 // Cells from `at` on.
-pub fn write_cells(book: &mut Book, at: usize, row: &[u32])
+fn write_cells(book: &mut Book, at: usize, row: &[u32])
     requires { ⌜ at + length (now row) ≤ CELLS ⌝ }
     ensures { λ r. ⌜ now (book .exit) ≡ sets (now (book .entry)) at (now (row .entry)) ⌝ }
 {

@@ -1,4 +1,4 @@
--- `cells::add_row` meets its contract.
+-- `stores::add_row` meets its contract.
 -- Assumes nothing.
 use borrow.Author.Needs.{needs}
 use Rattle.stores.specs.Stores.{withRow}

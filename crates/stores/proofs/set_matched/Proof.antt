@@ -1,4 +1,4 @@
--- `cells::set_matched` meets its contract.
+-- `stores::set_matched` meets its contract.
 -- Assumes nothing.
 use borrow.Author.Needs.{needs}
 use Rattle.stores.proofs.set_matched.Statement.{statement}

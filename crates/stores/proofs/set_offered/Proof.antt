@@ -1,4 +1,4 @@
--- `cells::set_offered` meets its contract.
+-- `stores::set_offered` meets its contract.
 -- Assumes nothing.
 use borrow.Author.Needs.{needs}
 use Rattle.stores.proofs.set_offered.Statement.{statement}

@@ -1,4 +1,4 @@
--- `cells::write_cells` meets its contract. The loop's invariant: what is left to write, from here, gives the whole.
+-- `stores::write_cells` meets its contract. The loop's invariant: what is left to write, from here, gives the whole.
 -- Assumes nothing.
 use mathlib.Core.Path.{_≡_, sym, _∙_}
 use Prim.Native.Nat.{_≤_, _<_, _+_, _-_}
