@@ -1,8 +1,7 @@
--- The number of an offer's reply, test by test, and what the stores of a granted one leave; what a read of capacity left finds.
+-- The number of an offer's reply, test by test, and what the stores of a granted one leave.
 -- Assumes nothing.
 use Prim.Native.Nat.{ℕ, _+_, _*_, _-_, _≤_, _<_}
 use mathlib.Core.Path.{_≡_, refl, sym, ap, _∙_}
-use mathlib.Core.Bool.{true, false, _||_}
 use mathlib.Core.List.{List, [], _∷_}
 use native.Mathlib.Omega.{arith}
 use borrow.Author.Tests.{eq-eqb}
@@ -11,11 +10,10 @@ use Rattle.rules.specs.Basics.{has}
 use Rattle.rules.specs.Book.{Book, place}
 use Rattle.rules.specs.Calls.{Call, OfferDirection, OfferProfile}
 use Rattle.rules.specs.Said.{said}
-use Rattle.rules.specs.Refusals.{order, firstOf, setupShut, directionUnknown, profileUnknown, hourUnknown, unknown, taken, wrongHours, noAccess, notOwner, cycle, full, shortageOf, refuses, number}
+use Rattle.rules.specs.Refusals.{order, firstOf, setupShut, unknown, taken, wrongHours, noAccess, notOwner, cycle, full, shortageOf, refuses, number}
 use Rattle.rules.specs.Effects.{isTimed, clockAfter, directionsAfter, profilesAfter, partiesAfter, offeredAfter, grantedAfter, rightsAfter, pairsAfter, matchedAfter, effect}
 use Rattle.rules.specs.Details.{detail}
-use Rattle.rules.specs.Reads.{directionReadRefuses, readDirection, profileReadRefuses, readProfile}
-use Rattle.rules.specs.declared.Answer.the-variants.{Granted, Unknown}
+use Rattle.rules.specs.declared.Answer.the-variants.{Granted}
 use Rattle.rules.proofs.Bools.{or-true}
 use Rattle.rules.proofs.Decisions.{is-granted, fails}
 use Rattle.cells.specs.Layout.{OFFERED}
@@ -23,9 +21,9 @@ use Rattle.cells.specs.View.{InHour, bookOf}
 use Rattle.cells.specs.Updates.{withOffered, withClock}
 use Rattle.stores.proofs.Stores.{offered-set, clock-set}
 use Rattle.cells.proofs.Views.{Known, KnownProfile, known, known-profile, granted-place}
-use Rattle.answers.specs.Promises.{Answers, saidLeft}
+use Rattle.answers.specs.Promises.{Answers}
 use Rattle.answers.proofs.Laws.{Left, granted}
-use Rattle.offers.specs.Work.{Placed, leftIn}
+use Rattle.offers.specs.Work.{Placed}
 
 -- the numbers that can apply to an offer
 pub direction-left : (b : Book) (t d h mw : ℕ) → Left b (OfferDirection t d h mw) (3 ∷ 5 ∷ 6 ∷ 8 ∷ 14 ∷ [])
@@ -70,23 +68,3 @@ offer-answers {c} {t} {l} {h} {mw} {left} b b′ o s g p =
     ∙ clock-set (set b (OFFERED + place l h) mw) t (length-set b (OFFERED + place l h) mw ∙ u)
     ∙ ap (λ (x : Book). withClock x t) (offered-set b (place l h) mw (omega arith) u)
     ∙ o .effect-is (bookOf b))
-
--- ---- the reads
-
-pub direction-unknown : (b : List ℕ) (d h : ℕ) → (directionUnknown (bookOf b) d || hourUnknown (bookOf b) h) ≡ true
-    → saidLeft (record { answer = Unknown; left = 0 }) ≡ readDirection (bookOf b) d h
-unfolding readDirection directionReadRefuses firstOf order
-direction-unknown b d h e = rw e
-
-pub direction-left-is : (b : List ℕ) (d h : ℕ) → (directionUnknown (bookOf b) d || hourUnknown (bookOf b) h) ≡ false → saidLeft (leftIn b d h) ≡ readDirection (bookOf b) d h
-unfolding readDirection directionReadRefuses firstOf order
-direction-left-is b d h e = rw e
-
-pub profile-unknown : (b : List ℕ) (p h : ℕ) → (profileUnknown (bookOf b) p || hourUnknown (bookOf b) h) ≡ true
-    → saidLeft (record { answer = Unknown; left = 0 }) ≡ readProfile (bookOf b) p h
-unfolding readProfile profileReadRefuses firstOf order
-profile-unknown b p h e = rw e
-
-pub profile-left-is : (b : List ℕ) (p h : ℕ) → (profileUnknown (bookOf b) p || hourUnknown (bookOf b) h) ≡ false → saidLeft (leftIn b (24 + p) h) ≡ readProfile (bookOf b) p h
-unfolding readProfile profileReadRefuses firstOf order
-profile-left-is b p h e = rw e

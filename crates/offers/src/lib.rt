@@ -1,4 +1,4 @@
-// Offers, and the reads of capacity left. No call has a `requires`: each promise is an equation with the rules, whatever the cells hold.
+// Offers. No call has a `requires`: each promise is an equation with the rules, whatever the cells hold.
 ghost use mathlib.Core.Path.{_≡_};
 ghost use mathlib.Core.Bool.{_||_};
 ghost use Prim.Native.Nat.{_+_, _<_, _≤_};
@@ -7,11 +7,9 @@ ghost use lib.ListN.{getD};
 ghost use Rattle.rules.specs.Windows.{latest, offerOutside};
 ghost use Rattle.rules.specs.Book.{place};
 ghost use Rattle.rules.specs.Calls.{OfferDirection, OfferProfile};
-ghost use Rattle.rules.specs.Refusals.{directionUnknown, profileUnknown, hourUnknown};
 ghost use Rattle.cells.specs.View.{InHour, bookOf};
-ghost use Rattle.answers.specs.Promises.{Judged, Answers, ReadsDirection, ReadsProfile};
-ghost use Rattle.offers.specs.Work.{Placed, leftIn};
-use answers::LeftRead;
+ghost use Rattle.answers.specs.Promises.{Judged, Answers};
+ghost use Rattle.offers.specs.Work.{Placed};
 use answers::Verdict;
 use cells::Book;
 use rules::Answer;
@@ -24,19 +22,6 @@ fn offer_field(time: u32, mw: u16) -> bool
     ensures { λ r. ⌜ r ≡ (ltb latest time || ltb 9999 mw) ⌝ }
 {
     time > 2999 || mw > 9999
-}
-
-fn direction_hour_unknown(book: &Book, direction: u8, hour: Hour) -> bool
-    ensures { λ r. ⌜ r ≡ (directionUnknown (bookOf (now (book .entry))) direction || hourUnknown (bookOf (now (book .entry))) (hour .0)) ⌝ }
-{
-    answers::direction_unknown(book, direction) || answers::hour_unknown(book, hour)
-}
-
-fn profile_hour_unknown(book: &Book, profile: u8, hour: Hour) -> bool
-    ensures { λ r. ⌜ r ≡ (profileUnknown (bookOf (now (book .entry))) profile || hourUnknown (bookOf (now (book .entry))) (hour .0)) ⌝ }
-{
-    cells::count_in(book, cells::PROFILES, cells::PROFILE_LIMIT) <= profile as u32
-        || answers::hour_unknown(book, hour)
 }
 
 // Outside the window of offers of the session that holds the hour.
@@ -65,7 +50,7 @@ fn direction_verdict(book: &Book, time: u32, direction: u8, hour: Hour, mw: u16)
     if answers::is_early(book, time) {
         return Verdict::No(Answer::Clock);
     }
-    if direction_hour_unknown(book, direction, hour) {
+    if left::direction_hour_unknown(book, direction, hour) {
         return Verdict::No(Answer::Unknown);
     }
     let model = cells::model_of(book, direction);
@@ -87,7 +72,7 @@ fn profile_verdict(book: &Book, time: u32, profile: u8, hour: Hour, mw: u16) -> 
     if answers::is_early(book, time) {
         return Verdict::No(Answer::Clock);
     }
-    if profile_hour_unknown(book, profile, hour) {
+    if left::profile_hour_unknown(book, profile, hour) {
         return Verdict::No(Answer::Unknown);
     }
     if outside(book, 1, hour, time) {
@@ -133,41 +118,4 @@ pub fn offer_profile(book: &mut Book, time: u32, profile: u8, hour: Hour, mw: u1
             Answer::Granted(place_offer(book, time, cells::PROFILE_ROW + profile, hour, mw))
         }
     }
-}
-
-// ---- the reads
-
-// The read of a row that is there.
-fn left_read(book: &Book, row: u8, hour: Hour) -> LeftRead
-    requires { ⌜ InHour row (hour .0) ⌝ }
-    ensures { λ r. ⌜ r ≡ leftIn (now (book .entry)) row (hour .0) ⌝ }
-{
-    LeftRead {
-        answer: Answer::Granted(0),
-        left: cells::left_at(book, row, hour),
-    }
-}
-
-pub fn left_of_direction(book: &Book, direction: u8, hour: Hour) -> LeftRead
-    ensures { λ r. ⌜ ReadsDirection (now (book .entry)) direction (hour .0) r ⌝ }
-{
-    if direction_hour_unknown(book, direction, hour) {
-        return LeftRead {
-            answer: Answer::Unknown,
-            left: 0,
-        };
-    }
-    left_read(book, direction, hour)
-}
-
-pub fn left_of_profile(book: &Book, profile: u8, hour: Hour) -> LeftRead
-    ensures { λ r. ⌜ ReadsProfile (now (book .entry)) profile (hour .0) r ⌝ }
-{
-    if profile_hour_unknown(book, profile, hour) {
-        return LeftRead {
-            answer: Answer::Unknown,
-            left: 0,
-        };
-    }
-    left_read(book, cells::PROFILE_ROW + profile, hour)
 }

@@ -1,8 +1,8 @@
--- `offers::left_read` meets its contract.
+-- `left::left_read` meets its contract.
 -- Assumes nothing.
 use borrow.Author.Needs.{needs}
-use Rattle.offers.proofs.left_read.Statement.{statement}
-use Rattle.offers.proofs.left_read.Tie as tie
+use Rattle.left.proofs.left_read.Statement.{statement}
+use Rattle.left.proofs.left_read.Tie as tie
 
 returns : tie.Need-returns
 returns c = rw (c .left-at .ensures)

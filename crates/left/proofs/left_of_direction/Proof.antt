@@ -1,11 +1,11 @@
--- `offers::left_of_direction` meets its contract.
+-- `left::left_of_direction` meets its contract.
 -- Assumes nothing.
 use Rattle.cells.proofs.Views.{known, slot}
 use Rattle.answers.proofs.Laws.{told}
-use Rattle.offers.proofs.Offers.{direction-unknown, direction-left-is}
+use Rattle.left.proofs.LeftReads.{direction-unknown, direction-left-is}
 use borrow.Author.Needs.{needs}
-use Rattle.offers.proofs.left_of_direction.Statement.{statement}
-use Rattle.offers.proofs.left_of_direction.Tie as tie
+use Rattle.left.proofs.left_of_direction.Statement.{statement}
+use Rattle.left.proofs.left_of_direction.Tie as tie
 
 returns : tie.Need-returns
 returns c = record { reply = direction-unknown _ _ _ (told (c .before .direction-hour-unknown .ensures) (c .if1 .taken)) }

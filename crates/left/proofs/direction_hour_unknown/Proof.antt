@@ -1,8 +1,8 @@
--- `offers::direction_hour_unknown` meets its contract.
+-- `left::direction_hour_unknown` meets its contract.
 -- Assumes nothing.
 use borrow.Author.Needs.{needs}
-use Rattle.offers.proofs.direction_hour_unknown.Statement.{statement}
-use Rattle.offers.proofs.direction_hour_unknown.Tie as tie
+use Rattle.left.proofs.direction_hour_unknown.Statement.{statement}
+use Rattle.left.proofs.direction_hour_unknown.Tie as tie
 
 returns : tie.Need-returns
 returns c = rw (← c .before .direction-unknown .ensures, c .if1 .taken)

@@ -1,10 +1,10 @@
--- `offers::profile_hour_unknown` meets its contract.
+-- `left::profile_hour_unknown` meets its contract.
 -- Assumes nothing.
 use borrow.Author.Tests.{le-leb, lt-leb}
 use Rattle.cells.proofs.Views.{profile-count}
 use borrow.Author.Needs.{needs}
-use Rattle.offers.proofs.profile_hour_unknown.Statement.{statement}
-use Rattle.offers.proofs.profile_hour_unknown.Tie as tie
+use Rattle.left.proofs.profile_hour_unknown.Statement.{statement}
+use Rattle.left.proofs.profile_hour_unknown.Tie as tie
 
 returns : tie.Need-returns
 returns c = rw (profile-count _, ← c .before .count-in .ensures, le-leb _ _ (c .if1 .taken))

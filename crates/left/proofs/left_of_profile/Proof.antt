@@ -1,12 +1,12 @@
--- `offers::left_of_profile` meets its contract.
+-- `left::left_of_profile` meets its contract.
 -- Assumes nothing.
 use native.Mathlib.Omega.{arith}
 use Rattle.cells.proofs.Views.{known-profile}
 use Rattle.answers.proofs.Laws.{told}
-use Rattle.offers.proofs.Offers.{profile-unknown, profile-left-is}
+use Rattle.left.proofs.LeftReads.{profile-unknown, profile-left-is}
 use borrow.Author.Needs.{needs}
-use Rattle.offers.proofs.left_of_profile.Statement.{statement}
-use Rattle.offers.proofs.left_of_profile.Tie as tie
+use Rattle.left.proofs.left_of_profile.Statement.{statement}
+use Rattle.left.proofs.left_of_profile.Tie as tie
 
 returns : tie.Need-returns
 returns c = record { reply = profile-unknown _ _ _ (told (c .before .profile-hour-unknown .ensures) (c .if1 .taken)) }
