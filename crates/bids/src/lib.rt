@@ -45,7 +45,7 @@ fn bid_unknown(book: &Book, party: u8, direction: u8, session: Session) -> bool
         return true;
     }
     let hours = cells::hours(book);
-    let model = cells::model_of(book, direction);
+    let model = tables::model_of(book, direction);
     !day::session_there(hours, model, session)
 }
 
@@ -71,8 +71,8 @@ fn no_access(book: &Book, party: u8, direction: u8) -> bool
     ensures { λ r. ⌜ r ≡ not (bit (cell (now (book .entry)) (PARTIES + 17 + party * 17)) (directionAt (now (book .entry)) direction .out) || bit (cell (now (book .entry)) (PARTIES + 17 + party * 17)) (directionAt (now (book .entry)) direction .into)) ⌝ }
 {
     let map = book[cells::PARTIES + 17 + party as usize * 17];
-    let out = cells::out_of(book, direction);
-    let into = cells::into_of(book, direction);
+    let out = tables::out_of(book, direction);
+    let into = tables::into_of(book, direction);
     if answers::has_access(map, out) {
         return false;
     }
@@ -111,7 +111,7 @@ fn bid_verdict(
     if bid_unknown(book, party, direction, session) {
         return BidVerdict::No(Answer::Unknown);
     }
-    let model = cells::model_of(book, direction);
+    let model = tables::model_of(book, direction);
     if outside(book, model, session, time) {
         return BidVerdict::No(Answer::Gate);
     }
@@ -149,7 +149,7 @@ fn place_bid(
 {
     cells::cells_in(book);
     let hours = cells::hours(book);
-    let model = cells::model_of(book, direction);
+    let model = tables::model_of(book, direction);
     let first = day::first_hour(hours, model, session);
     let count = day::hours_in(hours, model, session);
     capacity::grant_hours(book, direction, first, count, mw);

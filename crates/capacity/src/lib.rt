@@ -39,7 +39,7 @@ fn is_short(book: &Book, row: u8, hour: Hour, asked: u16) -> bool
     requires { ⌜ InHour row (hour .0) ⌝ }
     ensures { λ r. ⌜ r ≡ ltb (leftAt (bookOf (now (book .entry))) row (hour .0)) asked ⌝ }
 {
-    cells::left_at(book, row, hour) < asked as u32
+    tables::left_at(book, row, hour) < asked as u32
 }
 
 fn profile_short(book: &Book, profile: u8, direction: u8, hour: Hour, asked: u16) -> bool

@@ -1,11 +1,9 @@
-// The cells of a day book: one lent array with a table at each fixed place, and the reads of single cells. Nothing is assumed of what the cells hold.
+// The cells of a day book: one lent array with a table at each fixed place, the day's own cells, and the count of a table. Nothing is assumed of what the cells hold.
 ghost use mathlib.Core.Path.{_≡_};
-ghost use Prim.Native.Nat.{_+_, _<_};
-ghost use lib.ListN.{getD};
-ghost use Rattle.rules.specs.Book.{place, flag, leftAt, directionLimit, rightLimit};
-ghost use Rattle.rules.specs.Refusals.{isMatched};
-ghost use Rattle.cells.specs.Layout.{CELLS, OFFERED, GRANTED};
-ghost use Rattle.cells.specs.View.{InHour, Places, InRange, Cells, bookOf, counted, dayHoursIn, directionAt, startedIn, weekdayIn, clockIn, rightAt};
+ghost use Prim.Native.Nat.{_<_};
+ghost use Rattle.rules.specs.Book.{flag};
+ghost use Rattle.cells.specs.Layout.{CELLS};
+ghost use Rattle.cells.specs.View.{InHour, Places, InRange, Cells, counted, dayHoursIn, startedIn, weekdayIn, clockIn};
 use rules::Hour;
 use rules::Session;
 
@@ -127,80 +125,12 @@ pub fn count_in(book: &Book, table: usize, limit: u32) -> u32
     if count < limit { count } else { limit }
 }
 
-// The operators and the model of a direction.
-pub fn out_of(book: &Book, direction: u8) -> u32
-    requires { ⌜ direction < directionLimit ⌝ }
-    ensures { λ r. ⌜ r ≡ directionAt (now (book .entry)) direction .out ⌝ }
-{
-    book[DIRECTIONS + 1 + direction as usize * 3]
-}
-
-pub fn into_of(book: &Book, direction: u8) -> u32
-    requires { ⌜ direction < directionLimit ⌝ }
-    ensures { λ r. ⌜ r ≡ directionAt (now (book .entry)) direction .into ⌝ }
-{
-    book[DIRECTIONS + 2 + direction as usize * 3]
-}
-
-pub fn model_of(book: &Book, direction: u8) -> u32
-    requires { ⌜ direction < directionLimit ⌝ }
-    ensures { λ r. ⌜ r ≡ directionAt (now (book .entry)) direction .model ⌝ }
-{
-    book[DIRECTIONS + 3 + direction as usize * 3]
-}
-
-// The holder, the direction and the session of a right.
-pub fn right_holder(book: &Book, right: u16) -> u8
-    requires { ⌜ right < rightLimit ⌝ }
-    ensures { λ r. ⌜ r ≡ rightAt (now (book .entry)) right .holder ⌝ }
-{
-    (book[RIGHTS + 1 + right as usize * 8] % 256) as u8
-}
-
-pub fn right_direction(book: &Book, right: u16) -> u8
-    requires { ⌜ right < rightLimit ⌝ }
-    ensures { λ r. ⌜ r ≡ rightAt (now (book .entry)) right .direction ⌝ }
-{
-    (book[RIGHTS + 2 + right as usize * 8] % 256) as u8
-}
-
-pub fn right_session(book: &Book, right: u16) -> Session
-    requires { ⌜ right < rightLimit ⌝ }
-    ensures { λ r. ⌜ r .0 ≡ rightAt (now (book .entry)) right .session ⌝ }
-{
-    Session((book[RIGHTS + 3 + right as usize * 8] % 256) as u8)
-}
-
 // Where the MW of a row in an hour stand among the offers, and among the granted MW.
 pub fn place_of(row: u8, hour: Hour) -> usize
     requires { ⌜ InHour row (hour .0) ⌝ }
     ensures { λ r. ⌜ Places row (hour .0) r ⌝ }
 {
     row as usize * 25 + (hour.0 as usize - 1)
-}
-
-fn offered_at(book: &Book, row: u8, hour: Hour) -> u32
-    requires { ⌜ InHour row (hour .0) ⌝ }
-    ensures { λ r. ⌜ r ≡ getD (now (book .entry)) (OFFERED + place row (hour .0)) 0 ⌝ }
-{
-    book[OFFERED_MW + place_of(row, hour)]
-}
-
-pub fn granted_at(book: &Book, row: u8, hour: Hour) -> u32
-    requires { ⌜ InHour row (hour .0) ⌝ }
-    ensures { λ r. ⌜ r ≡ getD (now (book .entry)) (GRANTED + place row (hour .0)) 0 ⌝ }
-{
-    book[GRANTED_MW + place_of(row, hour)]
-}
-
-// What a row has left in an hour.
-pub fn left_at(book: &Book, row: u8, hour: Hour) -> u32
-    requires { ⌜ InHour row (hour .0) ⌝ }
-    ensures { λ r. ⌜ r ≡ leftAt (bookOf (now (book .entry))) row (hour .0) ⌝ }
-{
-    let offered = offered_at(book, row, hour);
-    let granted = granted_at(book, row, hour);
-    rules::less(offered, granted)
 }
 
 // Where the flag of a direction's session stands among the matched sessions.
@@ -213,12 +143,4 @@ pub fn flag_of(direction: u8, session: Session) -> usize
         return first;
     }
     first + (number as usize - 1)
-}
-
-// The session of a direction was matched.
-pub fn is_matched(book: &Book, direction: u8, session: Session) -> bool
-    ensures { λ r. ⌜ r ≡ isMatched (bookOf (now (book .entry)) .matched) direction (session .0) ⌝ }
-{
-    let at = flag_of(direction, session);
-    at < 600 && book[MATCHED_SESSIONS + at] == 1
 }

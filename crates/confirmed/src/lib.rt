@@ -136,9 +136,9 @@ pub fn confirmed_of(book: &Book, right: u16, out: u8, into: u8) -> ConfirmedRead
     let Found::At(i) = pairs::standing_pair(book, right as u32, out as u32, into as u32) else {
         return refused(Answer::Unknown);
     };
-    let direction = cells::right_direction(book, right);
-    let session = cells::right_session(book, right);
-    if !cells::is_matched(book, direction, session) {
+    let direction = tables::right_direction(book, right);
+    let session = tables::right_session(book, right);
+    if !tables::is_matched(book, direction, session) {
         return refused(Answer::Cycle);
     }
     let mw = confirmed_five(book, right, i);

@@ -34,7 +34,7 @@ fn left_read(book: &Book, row: u8, hour: Hour) -> LeftRead
 {
     LeftRead {
         answer: Answer::Granted(0),
-        left: cells::left_at(book, row, hour),
+        left: tables::left_at(book, row, hour),
     }
 }
 

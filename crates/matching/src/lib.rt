@@ -31,7 +31,7 @@ fn match_unknown(book: &Book, direction: u8, session: Session) -> bool
         return true;
     }
     let hours = cells::hours(book);
-    let model = cells::model_of(book, direction);
+    let model = tables::model_of(book, direction);
     !day::session_there(hours, model, session)
 }
 
@@ -56,11 +56,11 @@ fn match_verdict(book: &Book, time: u32, direction: u8, session: Session) -> Ver
     if match_unknown(book, direction, session) {
         return Verdict::No(Answer::Unknown);
     }
-    let model = cells::model_of(book, direction);
+    let model = tables::model_of(book, direction);
     if outside(book, model, session, time) {
         return Verdict::No(Answer::Gate);
     }
-    if cells::is_matched(book, direction, session) {
+    if tables::is_matched(book, direction, session) {
         return Verdict::No(Answer::Cycle);
     }
     Verdict::Clear
@@ -72,10 +72,10 @@ fn is_right_of_session(book: &Book, i: u32, direction: u8, session: Session) -> 
     requires { ⌜ i < rightLimit ⌝ }
     ensures { λ r. ⌜ r ≡ isOf direction (session .0) (rightAt (now (book .entry)) i) ⌝ }
 {
-    if cells::right_direction(book, i as u16) != direction {
+    if tables::right_direction(book, i as u16) != direction {
         return false;
     }
-    let stands = cells::right_session(book, i as u16);
+    let stands = tables::right_session(book, i as u16);
     stands.0 == session.0
 }
 

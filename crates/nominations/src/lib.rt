@@ -52,7 +52,7 @@ fn model_there(book: &Book, direction: u8) -> u32
     if answers::direction_unknown(book, direction) {
         return 0;
     }
-    cells::model_of(book, direction)
+    tables::model_of(book, direction)
 }
 
 // The operator of a side.
@@ -63,16 +63,16 @@ fn operator_there(book: &Book, direction: u8, side: u8) -> u32
         return 0;
     }
     if side != 0 {
-        return cells::into_of(book, direction);
+        return tables::into_of(book, direction);
     }
-    cells::out_of(book, direction)
+    tables::out_of(book, direction)
 }
 
 fn right_model(book: &Book, right: u16) -> u32
     requires { ⌜ right < counted (now book) RIGHTS rightLimit ⌝ }
     ensures { λ r. ⌜ r ≡ modelOf (bookOf (now (book .entry))) (rightDirection (bookOf (now (book .entry))) right) ⌝ }
 {
-    let direction = cells::right_direction(book, right);
+    let direction = tables::right_direction(book, right);
     model_there(book, direction)
 }
 
@@ -108,7 +108,7 @@ fn outside(book: &Book, right: u16, time: u32) -> bool
     let hours = cells::hours(book);
     let weekday = cells::weekday(book);
     let model = right_model(book, right);
-    let session = cells::right_session(book, right);
+    let session = tables::right_session(book, right);
     windows::nomination_outside(hours, weekday, model, session, time)
 }
 
@@ -119,7 +119,7 @@ fn lacking_hours(book: &Book, right: u16, mw: [u16; 5]) -> bool
 {
     let hours = cells::hours(book);
     let model = right_model(book, right);
-    let session = cells::right_session(book, right);
+    let session = tables::right_session(book, right);
     let count = day::hours_in(hours, model, session);
     capacity::any_above(0, mw, count)
 }
@@ -130,7 +130,7 @@ fn no_access(book: &Book, sender: u8, right: u16, side: u8) -> bool
     ensures { λ r. ⌜ r ≡ not (bit (party (bookOf (now (book .entry)) .parties) sender .access) (operatorOf (bookOf (now (book .entry))) (rightDirection (bookOf (now (book .entry))) right) side)) ⌝ }
 {
     let map = book[cells::PARTIES + 17 + sender as usize * 17];
-    let direction = cells::right_direction(book, right);
+    let direction = tables::right_direction(book, right);
     let operator = operator_there(book, direction, side);
     !answers::has_access(map, operator)
 }
@@ -140,7 +140,7 @@ fn not_owner(book: &Book, sender: u8, other: u8, right: u16) -> bool
     requires { ⌜ right < counted (now book) RIGHTS rightLimit ⌝ }
     ensures { λ r. ⌜ r ≡ not (eqb (rightHolder (bookOf (now (book .entry))) right) sender || eqb (rightHolder (bookOf (now (book .entry))) right) other) ⌝ }
 {
-    let holder = cells::right_holder(book, right);
+    let holder = tables::right_holder(book, right);
     if holder == sender {
         return false;
     }

@@ -38,7 +38,7 @@ fn offer_below(book: &Book, row: u8, hour: Hour, mw: u16) -> bool
     requires { ⌜ InHour row (hour .0) ⌝ }
     ensures { λ r. ⌜ r ≡ ltb mw (getD (bookOf (now (book .entry)) .granted) (place row (hour .0)) 0) ⌝ }
 {
-    (mw as u32) < cells::granted_at(book, row, hour)
+    (mw as u32) < tables::granted_at(book, row, hour)
 }
 
 fn direction_verdict(book: &Book, time: u32, direction: u8, hour: Hour, mw: u16) -> Verdict
@@ -53,7 +53,7 @@ fn direction_verdict(book: &Book, time: u32, direction: u8, hour: Hour, mw: u16)
     if left::direction_hour_unknown(book, direction, hour) {
         return Verdict::No(Answer::Unknown);
     }
-    let model = cells::model_of(book, direction);
+    let model = tables::model_of(book, direction);
     if outside(book, model, hour, time) {
         return Verdict::No(Answer::Gate);
     }
@@ -92,7 +92,7 @@ fn place_offer(book: &mut Book, time: u32, row: u8, hour: Hour, mw: u16) -> u32
     ensures { λ r. ⌜ Placed (now (book .entry)) time row (hour .0) mw r (now (book .exit)) ⌝ }
 {
     cells::cells_in(book);
-    let granted = cells::granted_at(book, row, hour);
+    let granted = tables::granted_at(book, row, hour);
     stores::set_offered(book, row, hour, mw);
     stores::set_clock(book, time);
     rules::less(mw as u32, granted)

@@ -27,13 +27,13 @@ fn same_right(book: &Book, right: u16, holder: u8, direction: u8, session: Sessi
     requires { ⌜ right < rightLimit ⌝ }
     ensures { λ r. ⌜ r ≡ isRightOf holder direction (session .0) (rightAt (now (book .entry)) right) ⌝ }
 {
-    if cells::right_holder(book, right) != holder {
+    if tables::right_holder(book, right) != holder {
         return false;
     }
-    if cells::right_direction(book, right) != direction {
+    if tables::right_direction(book, right) != direction {
         return false;
     }
-    let stands = cells::right_session(book, right);
+    let stands = tables::right_session(book, right);
     stands.0 == session.0
 }
 
@@ -147,9 +147,9 @@ fn right_there(book: &Book, right: u16) -> RightRead
     let at = cells::RIGHTS + 4 + right as usize * 8;
     RightRead {
         answer: Answer::Granted(0),
-        holder: cells::right_holder(book, right),
-        direction: cells::right_direction(book, right),
-        session: cells::right_session(book, right),
+        holder: tables::right_holder(book, right),
+        direction: tables::right_direction(book, right),
+        session: tables::right_session(book, right),
         mw: [
             book[at],
             book[at + 1],

@@ -1,9 +1,9 @@
--- `cells::right_direction` meets its contract.
+-- `tables::right_direction` meets its contract.
 -- Assumes nothing.
 use borrow.Author.Needs.{needs}
 use Rattle.cells.specs.View.{rightAt}
-use Rattle.cells.proofs.right_direction.Statement.{statement}
-use Rattle.cells.proofs.right_direction.Tie as tie
+use Rattle.tables.proofs.right_direction.Statement.{statement}
+use Rattle.tables.proofs.right_direction.Tie as tie
 
 returns : tie.Need-returns
 unfolding rightAt

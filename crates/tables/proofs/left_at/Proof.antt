@@ -1,10 +1,10 @@
--- `cells::left_at` meets its contract.
+-- `tables::left_at` meets its contract.
 -- Assumes nothing.
 use denote.Ref.{now}
 use Rattle.cells.proofs.Views.{left-at}
 use borrow.Author.Needs.{needs}
-use Rattle.cells.proofs.left_at.Statement.{statement}
-use Rattle.cells.proofs.left_at.Tie as tie
+use Rattle.tables.proofs.left_at.Statement.{statement}
+use Rattle.tables.proofs.left_at.Tie as tie
 
 returns : tie.Need-returns
 returns c =

@@ -1,8 +1,8 @@
--- `cells::granted_at` meets its contract.
+-- `tables::granted_at` meets its contract.
 -- Assumes nothing.
 use borrow.Author.Needs.{needs}
-use Rattle.cells.proofs.granted_at.Statement.{statement}
-use Rattle.cells.proofs.granted_at.Tie as tie
+use Rattle.tables.proofs.granted_at.Statement.{statement}
+use Rattle.tables.proofs.granted_at.Tie as tie
 
 returns : tie.Need-returns
 returns c = rw (c .before .place-of .ensures .place-is)

@@ -1,11 +1,11 @@
--- `cells::is_matched` meets its contract.
+-- `tables::is_matched` meets its contract.
 -- Assumes nothing.
 use borrow.Author.Needs.{needs}
 use borrow.Author.Tests.{le-ltb}
 use Rattle.rules.specs.Refusals.{isMatched}
 use Rattle.cells.proofs.Views.{matched-at, matched-past}
-use Rattle.cells.proofs.is_matched.Statement.{statement}
-use Rattle.cells.proofs.is_matched.Tie as tie
+use Rattle.tables.proofs.is_matched.Statement.{statement}
+use Rattle.tables.proofs.is_matched.Tie as tie
 
 returns : tie.Need-returns
 unfolding isMatched

@@ -1,9 +1,9 @@
--- `cells::right_session` meets its contract.
+-- `tables::right_session` meets its contract.
 -- Assumes nothing.
 use borrow.Author.Needs.{needs}
 use Rattle.cells.specs.View.{rightAt}
-use Rattle.cells.proofs.right_session.Statement.{statement}
-use Rattle.cells.proofs.right_session.Tie as tie
+use Rattle.tables.proofs.right_session.Statement.{statement}
+use Rattle.tables.proofs.right_session.Tie as tie
 
 returns : tie.Need-returns
 unfolding rightAt

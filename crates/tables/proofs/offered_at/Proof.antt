@@ -1,8 +1,8 @@
--- `cells::offered_at` meets its contract.
+-- `tables::offered_at` meets its contract.
 -- Assumes nothing.
 use borrow.Author.Needs.{needs}
-use Rattle.cells.proofs.offered_at.Statement.{statement}
-use Rattle.cells.proofs.offered_at.Tie as tie
+use Rattle.tables.proofs.offered_at.Statement.{statement}
+use Rattle.tables.proofs.offered_at.Tie as tie
 
 returns : tie.Need-returns
 returns c = rw (c .before .place-of .ensures .place-is)
