@@ -18,7 +18,7 @@ use rules::Session;
 pub fn open_day(book: &mut Book, hours: u8, weekday: u8) -> Answer
     ensures { λ r. ⌜ Opens hours weekday r (now (book .exit)) ⌝ }
 {
-    setup::open_day(book, hours, weekday)
+    opening::open_day(book, hours, weekday)
 }
 
 // Out operator, in operator, model 1 or 4. Granted: the direction's number.

@@ -1,4 +1,3 @@
-pub mod Opening
 pub mod Searches
 pub mod Bits
 pub mod Adding

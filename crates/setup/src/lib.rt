@@ -1,4 +1,4 @@
-// Set-up: the opening of a day, directions, profiles, and what every addition shares. Each promise is an equation with the rules, whatever the cells hold.
+// Set-up: directions, profiles, and what every addition shares. Each promise is an equation with the rules, whatever the cells hold.
 use answers::Verdict;
 use cells::Book;
 use rules::Answer;
@@ -11,43 +11,10 @@ ghost use lib.Count.{ones};
 ghost use Rattle.rules.specs.Calls.{AddDirection, AddProfile};
 ghost use Rattle.rules.specs.Book.{directionLimit, profileLimit};
 ghost use Rattle.rules.specs.Setup.{directionTaken};
-ghost use Rattle.rules.specs.Opening.{dayRefused};
 ghost use Rattle.cells.specs.Layout.{CELLS};
 ghost use Rattle.cells.specs.View.{bookOf, counted, directionAt};
-ghost use Rattle.answers.specs.Promises.{Judged, Opens, Answers};
+ghost use Rattle.answers.specs.Promises.{Judged, Answers};
 ghost use Rattle.setup.specs.Work.{Entered, sameOperators, clashes};
-
-// ---- the day
-fn day_refused(hours: u8, weekday: u8) -> bool
-    ensures { λ r. ⌜ r ≡ dayRefused hours weekday ⌝ }
-{
-    if hours < 23 {
-        return true;
-    }
-    if hours > 25 {
-        return true;
-    }
-    if weekday < 1 {
-        return true;
-    }
-    if weekday > 7 {
-        return true;
-    }
-    weekday == 2 && hours != 24
-}
-
-// Refused, it hands back the book of a 24-hour Monday.
-pub fn open_day(book: &mut Book, hours: u8, weekday: u8) -> Answer
-    ensures { λ r. ⌜ Opens hours weekday r (now (book .exit)) ⌝ }
-{
-    if day_refused(hours, weekday) {
-        stores::clear(book, 24, 1);
-        Answer::Day
-    } else {
-        stores::clear(book, hours, weekday);
-        Answer::Granted(0)
-    }
-}
 
 // ---- what the additions share
 pub fn setup_shut(book: &Book) -> bool

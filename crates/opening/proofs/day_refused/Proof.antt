@@ -1,9 +1,9 @@
--- `setup::day_refused` meets its contract: each return by the tests that led to it.
+-- `opening::day_refused` meets its contract: each return by the tests that led to it.
 -- Assumes nothing.
 use borrow.Author.Tests.{lt-ltb, le-ltb, eq-eqb, ne-eqb}
 use Rattle.rules.specs.Opening.{dayRefused}
-use Rattle.setup.proofs.day_refused.Statement.{statement}
-use Rattle.setup.proofs.day_refused.Tie as tie
+use Rattle.opening.proofs.day_refused.Statement.{statement}
+use Rattle.opening.proofs.day_refused.Tie as tie
 
 returns : tie.Need-returns
 unfolding dayRefused

@@ -1,10 +1,10 @@
--- `setup::open_day` meets its contract.
+-- `opening::open_day` meets its contract.
 -- Assumes nothing.
 use Rattle.answers.proofs.Laws.{told}
-use Rattle.setup.proofs.Opening.{opens-refused, opens-granted}
+use Rattle.opening.proofs.Opening.{opens-refused, opens-granted}
 use borrow.Author.Needs.{needs}
-use Rattle.setup.proofs.open_day.Statement.{statement}
-use Rattle.setup.proofs.open_day.Tie as tie
+use Rattle.opening.proofs.open_day.Statement.{statement}
+use Rattle.opening.proofs.open_day.Tie as tie
 
 returns : tie.Need-returns
 returns c = rw (c .clear .ensures) (opens-refused _ _ (told (c .before .before .before .day-refused .ensures) (c .before .before .if1 .taken)))
