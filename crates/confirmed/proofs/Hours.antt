@@ -1,6 +1,6 @@
 -- The confirmed MW of a pair, hour by hour.
 -- Assumes nothing.
-use Prim.Native.Nat.{ℕ, _+_, _*_, _/_, _^_, _≤_, _<_, min}
+use Prim.Native.Nat.{ℕ, _+_, _*_, _/_, _^_, _≤_, _<_}
 use mathlib.Core.Path.{_≡_}
 use mathlib.Core.List.{List}
 use native.Mathlib.Omega.{arith}
@@ -8,10 +8,11 @@ use native.Mathlib.Nat.{mul-comm, mul-le-mul, mul-le-mul-left, div-le-of-le-mul}
 use lib.ListN.{getD}
 use borrow.Author.Tests.{lt-ltb, le-ltb}
 use Rattle.rules.specs.Nominations.{confirmedOf}
-use Rattle.cells.specs.Layout.{RIGHTS, PAIRS}
-use Rattle.cells.specs.View.{cell, rightAt, pairAt}
+use Rattle.cells.specs.Layout.{RIGHTS}
+use Rattle.cells.specs.View.{cell, rightAt}
 use Rattle.cells.proofs.Views.{part-at}
-use Rattle.confirmed.specs.Work.{lowerIn, hourOf}
+use Rattle.totals.specs.Gathered.{lowerIn}
+use Rattle.confirmed.specs.Work.{hourOf}
 
 -- ---- one value
 
@@ -37,13 +38,6 @@ unfolding confirmedOf
 uncut R T m h = rw (le-ltb R T h)
 
 -- ---- one hour
-
--- the two sides of a pair in one hour stand in two cells
-pub lower-is : (b : List ℕ) (i k v : ℕ) → k < 5 → v ≡ min (cell b (PAIRS + 4 + i * 13 + k)) (cell b (PAIRS + 4 + i * 13 + k + 5)) → v ≡ lowerIn b i k
-unfolding pairAt
-lower-is b i k v l e =
-    let s : PAIRS + 4 + i * 13 + k + 5 ≡ PAIRS + 9 + i * 13 + k = omega arith in
-    rw (part-at b (PAIRS + 4 + i * 13) 5 k l, part-at b (PAIRS + 9 + i * 13) 5 k l, ← s) e
 
 -- a right's MW in one hour stand in one cell
 right-mw : (b : List ℕ) (r k : ℕ) → k < 5 → getD (rightAt b r .mw) k 0 ≡ cell b (RIGHTS + 4 + r * 8 + k)

@@ -1,3 +1,2 @@
-pub mod Gathering
 pub mod Hours
 pub mod Reading

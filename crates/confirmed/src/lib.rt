@@ -1,85 +1,15 @@
-// The read of the confirmed MW of a pair. The pairs of its right are handed to the sums as one list of records.
+// The read of the confirmed MW of a pair.
 ghost use mathlib.Core.Path.{_≡_};
-ghost use Prim.Native.Nat.{_<_, _≤_, min};
+ghost use Prim.Native.Nat.{_<_};
 ghost use Rattle.rules.specs.Basics.{five};
 ghost use Rattle.rules.specs.Book.{pairLimit, rightLimit};
 ghost use Rattle.rules.specs.Nominations.{confirmedOf};
 ghost use Rattle.answers.specs.Promises.{ReadsConfirmed};
-ghost use Rattle.confirmed.specs.Work.{Gathered, lowerIn, totalIn, hourOf, hourIn, refusedRead};
+ghost use Rattle.confirmed.specs.Work.{hourOf, hourIn, refusedRead};
 use answers::ConfirmedRead;
 use cells::Book;
 use cells::Found;
 use rules::Answer;
-use totals::PairLower;
-
-// The pairs of one right: the first `count` of the array.
-struct PairList {
-    pairs: [PairLower; totals::MOST],
-    count: usize,
-}
-
-// The lower of two numbers.
-fn lesser(a: u32, b: u32) -> u32
-    ensures { λ r. ⌜ r ≡ min a b ⌝ }
-{
-    if a < b { a } else { b }
-}
-
-// The lower side of pair number i in the hour at position `hour` of the session.
-fn lower_at(book: &Book, i: u32, hour: usize) -> u32
-    requires { ⌜ (i < pairLimit) × (hour < 5) ⌝ }
-    ensures { λ r. ⌜ r ≡ lowerIn (now (book .entry)) i hour ⌝ }
-{
-    let at = cells::PAIRS + 4 + i as usize * 13 + hour;
-    lesser(book[at], book[at + 5])
-}
-
-// Row i of the table of pairs.
-fn pair_in(book: &Book, i: u32) -> PairLower
-    requires { ⌜ i < pairLimit ⌝ }
-    ensures { λ r. ⌜ r .lower ≡ five (lowerIn (now (book .entry)) i) ⌝ }
-{
-    let lower = [
-        lower_at(book, i, 0),
-        lower_at(book, i, 1),
-        lower_at(book, i, 2),
-        lower_at(book, i, 3),
-        lower_at(book, i, 4),
-    ];
-    PairLower { lower: lower }
-}
-
-// The pairs of one right, in the order of the table.
-fn pairs_of(book: &Book, right: u32) -> PairList
-    ensures { λ r. ⌜ Gathered (now (book .entry)) right r ⌝ }
-{
-    let none = PairLower { lower: [0; 5] };
-    let mut pairs = [none; totals::MOST];
-    let mut count: usize = 0;
-    let entries = cells::count_in(book, cells::PAIRS, cells::PAIR_LIMIT);
-    for i in 0..entries {
-        if book[cells::PAIRS + 1 + i as usize * 13] != right {
-            continue;
-        }
-        let pair = pair_in(book, i);
-        pairs[count] = pair;
-        count = count + 1;
-    }
-    PairList {
-        pairs: pairs,
-        count: count,
-    }
-}
-
-// The sums of the lower sides over the pairs of one right.
-fn sums_of(book: &Book, right: u32) -> [u64; 5]
-    ensures { λ r. ⌜ r ≡ five (totalIn (now (book .entry)) right) ⌝ }
-{
-    let list = pairs_of(book, right);
-    let pairs = list.pairs;
-    let count = list.count;
-    totals::total_of(pairs, count)
-}
 
 // The confirmed MW of the lower side m, where the right has `held` and the sum of the lower sides is `total`.
 fn confirmed(held: u32, total: u64, m: u32) -> u32
@@ -96,7 +26,7 @@ fn confirmed_hour(book: &Book, right: u16, i: u32, total: u64, hour: usize) -> u
     requires { ⌜ (right < rightLimit) × ((i < pairLimit) × (hour < 5)) ⌝ }
     ensures { λ r. ⌜ r ≡ hourOf (now (book .entry)) right i total hour ⌝ }
 {
-    let lower = lower_at(book, i, hour);
+    let lower = totals::lower_at(book, i, hour);
     let held = book[cells::RIGHTS + 4 + right as usize * 8 + hour];
     confirmed(held, total, lower)
 }
@@ -106,7 +36,7 @@ fn confirmed_five(book: &Book, right: u16, i: u32) -> [u32; 5]
     requires { ⌜ (right < rightLimit) × (i < pairLimit) ⌝ }
     ensures { λ r. ⌜ r ≡ five (hourIn (now (book .entry)) right i) ⌝ }
 {
-    let sums = sums_of(book, right as u32);
+    let sums = totals::sums_of(book, right as u32);
     [
         confirmed_hour(book, right, i, sums[0], 0),
         confirmed_hour(book, right, i, sums[1], 1),

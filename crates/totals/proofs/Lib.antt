@@ -1,3 +1,4 @@
 pub mod Rest
 pub mod Prefix
 pub mod Sums
+pub mod Gathering

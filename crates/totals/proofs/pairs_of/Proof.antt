@@ -1,4 +1,4 @@
--- `confirmed::pairs_of` meets its contract.
+-- `totals::pairs_of` meets its contract.
 -- Assumes nothing.
 use mathlib.Core.Path.{_≡_, refl, sym, _∙_}
 use Prim.Native.Nat.{ℕ, _≤_, _<_, _+_, _-_}
@@ -9,11 +9,11 @@ use Rattle.rules.specs.Book.{pairLimit}
 use Rattle.rules.specs.Nominations.{lowerTotal}
 use Rattle.cells.specs.Loops.{rows}
 use Rattle.cells.specs.View.{pairAt}
 use Rattle.totals.specs.Total.{totalLower}
-use Rattle.confirmed.specs.Work.{totalIn}
-use Rattle.confirmed.proofs.Gathering.{gather-start, gather-pass, gather-next, gather-done}
-use Rattle.confirmed.proofs.pairs_of.Statement.{statement}
-use Rattle.confirmed.proofs.pairs_of.Tie as tie
+use Rattle.totals.specs.Gathered.{totalIn}
+use Rattle.totals.proofs.Gathering.{gather-start, gather-pass, gather-next, gather-done}
+use Rattle.totals.proofs.pairs_of.Statement.{statement}
+use Rattle.totals.proofs.pairs_of.Tie as tie
 
 abbrev Inv-loop : tie.InvT-loop
 Inv-loop book right pairs₀ count₀ entries i₀ pairs count i =

@@ -1,10 +1,10 @@
--- `confirmed::sums_of` meets its contract.
+-- `totals::sums_of` meets its contract.
 -- Assumes nothing.
 use mathlib.Core.Path.{_∙_}
-use Rattle.confirmed.proofs.Gathering.{gathered-sums}
+use Rattle.totals.proofs.Gathering.{gathered-sums}
 use borrow.Author.Needs.{needs}
-use Rattle.confirmed.proofs.sums_of.Statement.{statement}
-use Rattle.confirmed.proofs.sums_of.Tie as tie
+use Rattle.totals.proofs.sums_of.Statement.{statement}
+use Rattle.totals.proofs.sums_of.Tie as tie
 
 returns : tie.Need-returns
 returns c = c .total-of .ensures ∙ gathered-sums _ _ _ (c .before .before .pairs-of .ensures)

@@ -1,9 +1,9 @@
--- `confirmed::lower_at` meets its contract.
+-- `totals::lower_at` meets its contract.
 -- Assumes nothing.
-use Rattle.confirmed.proofs.Hours.{lower-is}
+use Rattle.totals.proofs.Gathering.{lower-is}
 use borrow.Author.Needs.{needs}
-use Rattle.confirmed.proofs.lower_at.Statement.{statement}
-use Rattle.confirmed.proofs.lower_at.Tie as tie
+use Rattle.totals.proofs.lower_at.Statement.{statement}
+use Rattle.totals.proofs.lower_at.Tie as tie
 
 returns : tie.Need-returns
 returns c = lower-is _ _ _ _ (c .before .before .before .pre .1) (c .lesser .ensures)

@@ -1,6 +1,6 @@
 -- The pairs of a right, gathered row by row: their lower sides have the sums of the rules.
 -- Assumes nothing.
-use Prim.Native.Nat.{ℕ, zero, suc, _+_, _-_, _*_, _≤_, _<_}
+use Prim.Native.Nat.{ℕ, zero, suc, _+_, _-_, _*_, _≤_, _<_, min}
 use mathlib.Core.Path.{_≡_, refl}
 use mathlib.Core.Bool.{true}
 use lib.Dec.{eqb}
@@ -17,11 +17,19 @@ use Rattle.rules.specs.Nominations.{lowerTotal}
 use Rattle.cells.specs.Layout.{PAIRS}
 use Rattle.cells.specs.Loops.{rows}
 use Rattle.cells.specs.View.{cell, counted, pairAt, pairsIn, bookOf}
+use Rattle.cells.proofs.Views.{part-at}
 use Rattle.totals.specs.declared.PairLower.{PairLower}
 use Rattle.totals.specs.Total.{lowerOf, sumOf, totalLower, totals}
 use Rattle.totals.proofs.Sums.{sum-snoc}
-use Rattle.confirmed.specs.Work.{Gathered, lowerIn, totalIn}
-use Rattle.confirmed.specs.declared.PairList.{PairList}
+use Rattle.totals.specs.Gathered.{Gathered, lowerIn, totalIn}
+use Rattle.totals.specs.declared.PairList.{PairList}
+
+-- the two sides of a pair in one hour stand in two cells
+pub lower-is : (b : List ℕ) (i k v : ℕ) → k < 5 → v ≡ min (cell b (PAIRS + 4 + i * 13 + k)) (cell b (PAIRS + 4 + i * 13 + k + 5)) → v ≡ lowerIn b i k
+unfolding pairAt
+lower-is b i k v l e =
+    let s : PAIRS + 4 + i * 13 + k + 5 ≡ PAIRS + 9 + i * 13 + k = omega arith in
+    rw (part-at b (PAIRS + 4 + i * 13) 5 k l, part-at b (PAIRS + 9 + i * 13) 5 k l, ← s) e
 
 -- nothing is gathered, and the whole table is left
 pub gather-start : (b : List ℕ) (r k last : ℕ) → last ≡ counted b PAIRS pairLimit → totalLower k [] + lowerTotal r k (rows (pairAt b) (last - 0) 0) ≡ totalIn b r k
