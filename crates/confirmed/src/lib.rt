@@ -21,13 +21,13 @@ fn confirmed(held: u32, total: u64, m: u32) -> u32
     m
 }
 
-// The confirmed MW of pair number i in the hour at position `hour` of the session, where the sum over its right is `total`.
-fn confirmed_hour(book: &Book, right: u16, i: u32, total: u64, hour: usize) -> u32
-    requires { ⌜ (right < rightLimit) × ((i < pairLimit) × (hour < 5)) ⌝ }
-    ensures { λ r. ⌜ r ≡ hourOf (now (book .entry)) right i total hour ⌝ }
+// The confirmed MW of pair number i in the hour at a position of the session, where the sum over its right is `total`.
+fn confirmed_hour(book: &Book, right: u16, i: u32, total: u64, position: usize) -> u32
+    requires { ⌜ (right < rightLimit) × ((i < pairLimit) × (position < 5)) ⌝ }
+    ensures { λ r. ⌜ r ≡ hourOf (now (book .entry)) right i total position ⌝ }
 {
-    let lower = totals::lower_at(book, i, hour);
-    let held = book[cells::RIGHTS + 4 + right as usize * 8 + hour];
+    let lower = totals::lower_at(book, i, position);
+    let held = book[cells::RIGHTS + 4 + right as usize * 8 + position];
     confirmed(held, total, lower)
 }
 

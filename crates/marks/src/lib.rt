@@ -11,12 +11,12 @@ ghost use Rattle.cells.specs.View.{pairAt, counted, bookOf};
 ghost use Rattle.marks.specs.Totals.{Bounded, SumsWith, Summed};
 use cells::Book;
 
-// The MW of one side of a pair in an hour of the session.
-fn side_mw(book: &Book, i: u32, side: u8, hour: usize) -> u32
-    requires { ⌜ (i < pairLimit) × ((side ≤ 1) × (hour < 5)) ⌝ }
-    ensures { λ r. ⌜ r ≡ getD (sideOf side (pairAt (now (book .entry)) i)) hour 0 ⌝ }
+// The MW of one side of a pair in the hour at a position of the session.
+fn side_mw(book: &Book, i: u32, side: u8, position: usize) -> u32
+    requires { ⌜ (i < pairLimit) × ((side ≤ 1) × (position < 5)) ⌝ }
+    ensures { λ r. ⌜ r ≡ getD (sideOf side (pairAt (now (book .entry)) i)) position 0 ⌝ }
 {
-    book[pairs::side_at(i, side) + hour]
+    book[pairs::side_at(i, side) + position]
 }
 
 // The totals of the pairs before number i, with those of pair i added where it is of the right.
@@ -28,8 +28,8 @@ fn with_share(book: &Book, i: u32, right: u32, side: u8, totals: [u64; 5]) -> [u
         return totals;
     }
     let mut sums = totals;
-    for hour in 0..5 {
-        sums[hour] = totals[hour] + side_mw(book, i, side, hour) as u64;
+    for position in 0..5 {
+        sums[position] = totals[position] + side_mw(book, i, side, position) as u64;
     }
     sums
 }
@@ -67,8 +67,8 @@ pub fn marks(book: &Book, right: u16, side: u8) -> u32
     let at = cells::RIGHTS + 4 + right as usize * 8;
     let mut bits = 0;
     for k in 0..5 {
-        let hour = 4 - k;
-        bits = mark(book[at + hour], totals[hour]) + 2 * bits;
+        let position = 4 - k;
+        bits = mark(book[at + position], totals[position]) + 2 * bits;
     }
     bits
 }

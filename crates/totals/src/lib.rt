@@ -78,12 +78,12 @@ fn lesser(a: u32, b: u32) -> u32
     if a < b { a } else { b }
 }
 
-// The lower side of pair number i in the hour at position `hour` of the session.
-pub fn lower_at(book: &Book, i: u32, hour: usize) -> u32
-    requires { ⌜ (i < pairLimit) × (hour < 5) ⌝ }
-    ensures { λ r. ⌜ r ≡ lowerIn (now (book .entry)) i hour ⌝ }
+// The lower side of pair number i in the hour at a position of the session.
+pub fn lower_at(book: &Book, i: u32, position: usize) -> u32
+    requires { ⌜ (i < pairLimit) × (position < 5) ⌝ }
+    ensures { λ r. ⌜ r ≡ lowerIn (now (book .entry)) i position ⌝ }
 {
-    let at = cells::PAIRS + 4 + i as usize * 13 + hour;
+    let at = cells::PAIRS + 4 + i as usize * 13 + position;
     lesser(book[at], book[at + 5])
 }
 

@@ -8,10 +8,10 @@ use Rattle.marks.proofs.with_share.Statement.{statement}
 use Rattle.marks.proofs.with_share.Tie as tie
 
 abbrev Inv-loop : tie.InvT-loop
-Inv-loop book i right side totals sums₀ hour₀ sums hour = (hour ≤ 5) × AddedTo book i right side totals hour sums
+Inv-loop book i right side totals sums₀ position₀ sums position = (position ≤ 5) × AddedTo book i right side totals position sums
 
 abbrev μ-loop : tie.MeasureT-loop
-μ-loop book i right side totals sums₀ hour₀ sums hour = 5 - hour
+μ-loop book i right side totals sums₀ position₀ sums position = 5 - position
 
 returns : tie.Need-returns Inv-loop μ-loop
 returns c = none-added _ _ _ _ _ (c .before .before .pre .1 .1) (c .if1 .taken)
