@@ -32,7 +32,7 @@ enum BidVerdict {
 fn bid_field(time: u32, mw: [u16; 5]) -> bool
     ensures { λ r. ⌜ r ≡ (ltb latest time || anyAbove 9999 mw) ⌝ }
 {
-    time > 2999 || capacity::any_above(9999, mw, 0)
+    time > rules::LATEST || capacity::any_above(rules::MOST_MW, mw, 0)
 }
 
 fn bid_unknown(book: &Book, party: u8, direction: u8, session: Session) -> bool

@@ -59,6 +59,9 @@ pub const RIGHT_LIMIT: u32 = 512;
 
 pub const PAIR_LIMIT: u32 = 512;
 
+// How many flags the matched sessions have.
+pub const FLAGS: usize = 600;
+
 // The profiles' rows of MW follow those of the directions.
 pub const PROFILE_ROW: u8 = 24;
 

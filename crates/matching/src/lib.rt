@@ -21,7 +21,7 @@ use rules::Session;
 fn match_field(time: u32) -> bool
     ensures { λ r. ⌜ r ≡ ltb latest time ⌝ }
 {
-    time > 2999
+    time > rules::LATEST
 }
 
 fn match_unknown(book: &Book, direction: u8, session: Session) -> bool

@@ -82,10 +82,10 @@ fn right_model(book: &Book, right: u16) -> u32
 fn nomination_field(time: u32, side: u8, mw: [u16; 5]) -> bool
     ensures { λ r. ⌜ r ≡ (ltb latest time || ltb 1 side || anyAbove 9999 mw) ⌝ }
 {
-    if time > 2999 {
+    if time > rules::LATEST {
         return true;
     }
-    side > 1 || capacity::any_above(9999, mw, 0)
+    side > 1 || capacity::any_above(rules::MOST_MW, mw, 0)
 }
 
 fn nomination_unknown(book: &Book, sender: u8, other: u8, right: u16) -> bool

@@ -21,7 +21,7 @@ use rules::Hour;
 fn offer_field(time: u32, mw: u16) -> bool
     ensures { λ r. ⌜ r ≡ (ltb latest time || ltb 9999 mw) ⌝ }
 {
-    time > 2999 || mw > 9999
+    time > rules::LATEST || mw > rules::MOST_MW
 }
 
 // Outside the window of offers of the session that holds the hour.

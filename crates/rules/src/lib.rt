@@ -2,6 +2,12 @@
 ghost use mathlib.Core.Path.{_≡_};
 ghost use Prim.Native.Nat.{_-_};
 
+// The last minute that the clock counts.
+pub const LATEST: u32 = 2999;
+
+// The most MW in an hour that a call can ask for or offer.
+pub const MOST_MW: u16 = 9999;
+
 // A session's number. Only the session rule turns it into an hour.
 pub struct Session(pub u8);
 

@@ -84,5 +84,5 @@ pub fn is_matched(book: &Book, direction: u8, session: Session) -> bool
     ensures { λ r. ⌜ r ≡ isMatched (bookOf (now (book .entry)) .matched) direction (session .0) ⌝ }
 {
     let at = cells::flag_of(direction, session);
-    at < 600 && book[cells::MATCHED_SESSIONS + at] == 1
+    at < cells::FLAGS && book[cells::MATCHED_SESSIONS + at] == 1
 }
