@@ -100,26 +100,25 @@ fn code_at(codes: &[u8], at: usize) -> [u8; 16]
     code
 }
 
-fn code_case(tally: Tally, code: [u8; 16], expected: bool) -> Tally {
+fn code_case(tally: &mut Tally, code: [u8; 16], expected: bool) {
     let accepted = eic::is_party_code(code);
     text(b"party code ");
     text(&code);
     word(b": refused|: accepted", accepted as usize);
     word(b", expected refused|, expected accepted", expected as usize);
-    counted(tally, accepted == expected)
+    counted(tally, accepted == expected);
 }
 
 // Each code of a list.
-fn list_cases(before: Tally, codes: &[u8], expected: bool) -> Tally {
-    let mut tally = before;
+fn list_cases(tally: &mut Tally, codes: &[u8], expected: bool) {
     for k in 0..codes.len() / 16 {
-        tally = code_case(tally, code_at(codes, 16 * k), expected);
+        code_case(tally, code_at(codes, 16 * k), expected);
     }
-    tally
 }
 
-pub fn run(before: Tally) -> Tally {
+pub fn run(tally: &mut Tally) {
     let parties = PARTIES;
     let others = OTHERS;
-    list_cases(list_cases(before, &parties, true), &others, false)
+    list_cases(tally, &parties, true);
+    list_cases(tally, &others, false);
 }

@@ -3,70 +3,45 @@ ghost use Prim.Native.Nat.{_≤_};
 ghost use lib.ListN.{length};
 
 // How many cases ran, and how many of them did not come out as expected.
-pub struct Tally {
-    pub cases: u64,
-    pub wrong: u64,
-}
+pub type Tally = [u32; 2];
 
 pub fn text(bytes: &[u8]) {
     io::write_all(libc::STDOUT_FILENO, bytes);
 }
 
-pub fn number(n: u64) {
-    io::print_decimal(libc::STDOUT_FILENO, n);
+pub fn number(n: u32) {
+    io::print_decimal(libc::STDOUT_FILENO, n as u64);
 }
 
-// The position of the next such byte, or the end.
-pub fn position(bytes: &[u8], from: usize, byte: u8) -> usize
-    requires { ⌜ from ≤ length (now bytes) ⌝ }
-    ensures { λ r. ⌜ (from ≤ r) × (r ≤ length (now (bytes .entry))) ⌝ }
-{
-    for at in from..bytes.len() {
-        if bytes[at] == byte {
-            return at;
-        }
-    }
-    bytes.len()
-}
-
-// The position past one, or the end.
-fn past(bytes: &[u8], at: usize) -> usize
-    requires { ⌜ at ≤ length (now bytes) ⌝ }
-    ensures { λ r. ⌜ r ≤ length (now (bytes .entry)) ⌝ }
-{
-    if at < bytes.len() {
-        return at + 1;
-    }
-    at
-}
-
-// Prints up to the next such byte, and answers the position past it.
-fn print_to(bytes: &[u8], from: usize, byte: u8) -> usize
-    requires { ⌜ from ≤ length (now bytes) ⌝ }
-    ensures { λ r. ⌜ r ≤ length (now (bytes .entry)) ⌝ }
-{
-    let at = position(bytes, from, byte);
-    text(&bytes[from..at]);
-    past(bytes, at)
-}
-
-// A text with the numbers in place of its marks, which are '#'.
-pub fn fill(marked: &[u8], numbers: &[u64]) {
+// The part of a text at a place, from 0, where such bytes part it. Past the last part: the last.
+pub fn part(whole: &[u8], byte: u8, place: usize) -> &[u8] {
     let mut from = 0;
-    for k in 0..numbers.len() {
-        from = print_to(marked, from, b'#');
-        number(numbers[k]);
+    let mut left = place;
+    for at in 0..whole.len() {
+        if whole[at] != byte {
+            continue;
+        }
+        if left == 0 {
+            return &whole[from..at];
+        }
+        left -= 1;
+        from = at + 1;
     }
-    text(&marked[from..]);
+    &whole[from..]
 }
 
 // The word at a place, from 0, of a list whose words have bars between them.
 pub fn word(words: &[u8], place: usize) {
-    let mut from = 0;
-    for k in 0..place {
-        from = past(words, position(words, from, b'|'));
+    text(part(words, b'|', place));
+}
+
+// A text with the numbers in place of its marks, which are '#'.
+pub fn fill(marked: &[u8], numbers: &[u32]) {
+    for k in 0..numbers.len() {
+        text(part(marked, b'#', k));
+        number(numbers[k]);
     }
-    print_to(words, from, b'|');
+    text(part(marked, b'#', numbers.len()));
 }
 
 // The last hexadecimal digit of a byte.
@@ -87,11 +62,32 @@ pub fn hex(bytes: &[u8]) {
     }
 }
 
-// Ends the line of a case and counts it.
-pub fn counted(tally: Tally, as_expected: bool) -> Tally {
-    word(b" NOT AS EXPECTED\n|\n", as_expected as usize);
-    Tally {
-        cases: std::num::wrapping_add_u64(tally.cases, 1),
-        wrong: std::num::wrapping_add_u64(tally.wrong, !as_expected as u64),
+pub fn same(one: &[u32], other: &[u32]) -> bool {
+    if one.len() != other.len() {
+        return false;
     }
+    for k in 0..one.len() {
+        if one[k] != other[k] {
+            return false;
+        }
+    }
+    true
+}
+
+// Ends the line of a case and counts it.
+pub fn counted(tally: &mut Tally, as_expected: bool) {
+    word(b" NOT AS EXPECTED\n|\n", as_expected as usize);
+    tally[0] = std::num::wrapping_add_u32(tally[0], 1);
+    tally[1] = std::num::wrapping_add_u32(tally[1], !as_expected as u32);
+}
+
+// A line of numbers: those found, then as many that were expected.
+pub fn case(tally: &mut Tally, marked: &[u8], numbers: &[u32]) {
+    let half = numbers.len() / 2;
+    fill(marked, numbers);
+    counted(tally, same(&numbers[0..half], &numbers[half..]));
+}
+
+pub fn total(tally: &Tally) {
+    fill(b"# cases, # not as expected\n", tally);
 }

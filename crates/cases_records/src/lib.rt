@@ -1,149 +1,547 @@
-// The call records that are tried: records of every kind, calls that the writer refuses, and damaged records.
+// Call records of every kind: each read whole, with bytes after it and cut short, and written back; calls that the writer refuses; and
+// damaged records.
 use cases_printing::Tally;
-use cases_printing::position;
+use cases_printing::counted;
+use cases_printing::fill;
+use cases_printing::hex;
+use cases_printing::part;
+use cases_printing::same;
 use cases_printing::text;
-use cases_record::Fields;
-use cases_record::Mw;
-use cases_record::record_cases;
-use cases_record::refused_case;
-use cases_record::write_case;
+use rules::Answer;
 use rules::CallRecord;
 use rules::Hour;
 use rules::Session;
+ghost use mathlib.Core.Path.{_≡_};
+ghost use Prim.Native.Nat.{_<_, _≤_};
+ghost use lib.ListN.{length};
+
+// A number, and a call's kind, time, party, other, direction, profile, session, right, side, hour and MW.
+type Numbers = [u32; 16];
+
+// A buffer is longer than any record.
+type Buffer = [u8; 24];
+
+// What a buffer holds where nothing was written.
+const UNTOUCHED: u8 = 0xEE;
+
+// ---- answers and calls as numbers
+
+fn reply_of(answer: Answer) -> [u32; 3] {
+    let reply = answers::numbers(answer);
+    [reply.number as u32, reply.first, reply.second]
+}
+
+fn numbers_of(number: usize, call: CallRecord) -> Numbers {
+    let fields = fields::fields_of(call);
+    let mut numbers = [0u32; 16];
+    numbers[0] = (number % 256) as u32;
+    numbers[10] = fields[14];
+    for k in 0..14 {
+        numbers[place_of(k)] = fields[k];
+    }
+    numbers
+}
+
+// The hour stands before the MW.
+fn place_of(field: usize) -> usize
+    requires { ⌜ field < 14 ⌝ }
+    ensures { λ r. ⌜ r < 16 ⌝ }
+{
+    if field < 9 {
+        return field + 1;
+    }
+    field + 2
+}
+
+fn print_call(numbers: &[u32])
+    requires { ⌜ 16 ≡ length (now numbers) ⌝ }
+{
+    fill(
+        b" kind #, time #, party #, other #, direction #, profile #, session #, right #, side #, hour #, MW # # # # #",
+        &numbers[1..16],
+    );
+}
+
+// ---- reading
+
+fn print_reading(reply: &[u32; 3], numbers: &[u32])
+    requires { ⌜ 16 ≡ length (now numbers) ⌝ }
+{
+    if same(reply, &[1, 0, 0]) && same(numbers, &[0u32; 16]) {
+        text(b" answer 1 and zeros");
+        return;
+    }
+    fill(b" answer # # #", reply);
+    fill(b", length #,", &numbers[0..1]);
+    print_call(numbers);
+}
+
+fn reading_case(tally: &mut Tally, reply: [u32; 3], found: Numbers, number: u32, expected: &[u32])
+    requires { ⌜ 16 ≡ length (now expected) ⌝ }
+{
+    let due = [number, 0, 0];
+    print_reading(&reply, &found);
+    text(b"; expected");
+    print_reading(&due, expected);
+    counted(tally, same(&reply, &due) & same(&found, expected));
+}
+
+fn read_case(tally: &mut Tally, bytes: &[u8], number: u32, expected: &[u32])
+    requires { ⌜ 16 ≡ length (now expected) ⌝ }
+{
+    let read = record::read(bytes);
+    let answer = read.answer;
+    let call = read.call;
+    text(b"read");
+    hex(bytes);
+    text(b":");
+    reading_case(
+        tally,
+        reply_of(answer),
+        numbers_of(read.length, call),
+        number,
+        expected,
+    );
+}
+
+fn refused_case(tally: &mut Tally, bytes: &[u8]) {
+    read_case(tally, bytes, 1, &[0u32; 16]);
+}
+
+// The record cut short at each length.
+fn cut_cases(tally: &mut Tally, bytes: &[u8]) {
+    for length in 0..bytes.len() {
+        refused_case(tally, &bytes[0..length]);
+    }
+}
+
+// ---- writing
+
+// A buffer that begins with the record.
+fn buffer_with(bytes: &[u8]) -> Buffer
+    requires { ⌜ length (now bytes) ≤ 24 ⌝ }
+    ensures { λ r. ⌜ 24 ≡ length r ⌝ }
+{
+    let mut buffer = [UNTOUCHED; 24];
+    for k in 0..bytes.len() {
+        buffer[k] = bytes[k];
+    }
+    buffer
+}
+
+fn same_bytes(one: &[u8], other: &[u8]) -> bool {
+    if one.len() != other.len() {
+        return false;
+    }
+    for k in 0..one.len() {
+        if one[k] != other[k] {
+            return false;
+        }
+    }
+    true
+}
+
+fn print_written(reply: [u32; 3], buffer: &[u8]) {
+    fill(b" answer # # #, buffer", &reply);
+    hex(buffer);
+}
+
+fn written_case(
+    tally: &mut Tally,
+    call: CallRecord,
+    buffer: &mut [u8],
+    due: [u32; 3],
+    expected: &[u8],
+) {
+    let reply = reply_of(record::write(call, buffer));
+    print_written(reply, buffer);
+    text(b"; expected");
+    print_written(due, expected);
+    counted(tally, same(&reply, &due) & same_bytes(buffer, expected));
+}
+
+fn print_write(size: usize, call: CallRecord) {
+    let numbers = numbers_of(size, call);
+    text(b"write");
+    print_call(&numbers);
+    fill(b" into # bytes:", &numbers[0..1]);
+}
+
+// Writes the call into a buffer of a size, which is then to begin with the bytes; where there are none, the call is to be refused.
+fn write_case(tally: &mut Tally, call: CallRecord, size: usize, bytes: &[u8])
+    requires { ⌜ (length (now bytes) ≤ 24) × (size ≤ 24) ⌝ }
+{
+    let mut buffer = [UNTOUCHED; 24];
+    let expected = buffer_with(bytes);
+    let due = [(bytes.len() == 0) as u32, bytes.len() as u32, 0];
+    print_write(size, call);
+    written_case(tally, call, &mut buffer[0..size], due, &expected[0..size]);
+}
+
+// Writes back the call that a record holds.
+fn write_back(tally: &mut Tally, record: &[u8], size: usize, bytes: &[u8])
+    requires { ⌜ (length (now bytes) ≤ 24) × (size ≤ 24) ⌝ }
+{
+    let call = record::read(record).call;
+    write_case(tally, call, size, bytes);
+}
+
+// With room after the record, with just enough, and with a byte too few.
+fn write_cases(tally: &mut Tally, bytes: &[u8])
+    requires { ⌜ (0 < length (now bytes)) × (length (now bytes) ≤ 20) ⌝ }
+{
+    write_back(tally, bytes, bytes.len() + 2, bytes);
+    write_back(tally, bytes, bytes.len(), bytes);
+    write_back(tally, bytes, bytes.len() - 1, b"");
+}
 
 // ---- records of each kind
 
-fn direction_offers(before: Tally) -> Tally {
-    let mut tally = before;
-    tally = record_cases(
-        tally,
-        Fields(1, 960, 0, 0, 0, 0, 0, 0, 0, 1),
-        Mw(0, 0, 0, 0, 0),
-        b"\x13\x40\x01\xC0\x03\x00\x01",
-    );
-    tally = record_cases(
-        tally,
-        Fields(1, 1000, 0, 0, 0, 0, 0, 0, 0, 1),
-        Mw(100, 0, 0, 0, 0),
-        b"\x13\x42\x01\xE8\x03\x00\x64\x00\x01",
-    );
-    tally = record_cases(
-        tally,
-        Fields(1, 65535, 0, 0, 255, 0, 0, 0, 0, 255),
-        Mw(65535, 0, 0, 0, 0),
-        b"\x13\x42\x01\xFF\xFF\xFF\xFF\xFF\xFF",
-    );
-    tally
+const RECORDS: [u8; 225] = *b"\
+    \x13\x40\x01\xC0\x03\x00\x01|\
+    \x13\x42\x01\xE8\x03\x00\x64\x00\x01|\
+    \x13\x42\x01\xFF\xFF\xFF\xFF\xFF\xFF|\
+    \x23\x40\x02\xCD\x04\x07\x19|\
+    \x23\x42\x02\xD0\x07\x01\x0F\x27\x18|\
+    \x23\x42\x02\xFF\xFF\xFF\xFF\xFF\xFF|\
+    \x57\x02\x03\x4C\x04\x02\x00\x01\x32\x00|\
+    \x57\x00\x03\x38\x04\x00\x00\x01|\
+    \x57\x16\x03\xDC\x05\x3F\x17\x06\x64\x00\x96\x00\xC8\x00|\
+    \x57\x3E\x03\x09\x05\x05\x01\x01\x0A\x00\x14\x00\x1E\x00\x28\x00\x88\x13|\
+    \x57\x3E\x03\xFF\xFF\xFF\xFF\xFF\xFF\xFF\xFF\xFF\xFF\xFF\xFF\xFF\xFF\xFF|\
+    \x8F\x01\x04\x14\x05\x01\x02\x2C\x01\x00|\
+    \x8F\x21\x04\x14\x05\x03\x03\xFF\x01\x01\x0F\x27|\
+    \x8F\x0D\x04\xE5\x0A\x00\x3F\x00\x00\x01\x00\x01\x01\x00|\
+    \x8F\x3F\x04\x39\x04\x07\x08\x0C\x00\x00\x01\x00\x02\x00\x03\x00\x04\x00\x05\x00|\
+    \x8F\x3F\x04\xFF\xFF\xFF\xFF\xFF\xFF\xFF\xFF\xFF\xFF\xFF\xFF\xFF\xFF\xFF\xFF\xFF|\
+    \x53\x00\x05\x73\x05\x02\x01|\
+    \x53\x00\x05\xFF\xFF\xFF\xFF\
+";
+
+// The length of each record, and the call that it holds.
+const READINGS: [u32; 288] = [
+    7,
+    1,
+    960,
+    0,
+    0,
+    0,
+    0,
+    0,
+    0,
+    0,
+    1,
+    0,
+    0,
+    0,
+    0,
+    0,
+    9,
+    1,
+    1000,
+    0,
+    0,
+    0,
+    0,
+    0,
+    0,
+    0,
+    1,
+    100,
+    0,
+    0,
+    0,
+    0,
+    9,
+    1,
+    65535,
+    0,
+    0,
+    255,
+    0,
+    0,
+    0,
+    0,
+    255,
+    65535,
+    0,
+    0,
+    0,
+    0,
+    7,
+    2,
+    1229,
+    0,
+    0,
+    0,
+    7,
+    0,
+    0,
+    0,
+    25,
+    0,
+    0,
+    0,
+    0,
+    0,
+    9,
+    2,
+    2000,
+    0,
+    0,
+    0,
+    1,
+    0,
+    0,
+    0,
+    24,
+    9999,
+    0,
+    0,
+    0,
+    0,
+    9,
+    2,
+    65535,
+    0,
+    0,
+    0,
+    255,
+    0,
+    0,
+    0,
+    255,
+    65535,
+    0,
+    0,
+    0,
+    0,
+    10,
+    3,
+    1100,
+    2,
+    0,
+    0,
+    0,
+    1,
+    0,
+    0,
+    0,
+    50,
+    0,
+    0,
+    0,
+    0,
+    8,
+    3,
+    1080,
+    0,
+    0,
+    0,
+    0,
+    1,
+    0,
+    0,
+    0,
+    0,
+    0,
+    0,
+    0,
+    0,
+    14,
+    3,
+    1500,
+    63,
+    0,
+    23,
+    0,
+    6,
+    0,
+    0,
+    0,
+    100,
+    150,
+    0,
+    200,
+    0,
+    18,
+    3,
+    1289,
+    5,
+    0,
+    1,
+    0,
+    1,
+    0,
+    0,
+    0,
+    10,
+    20,
+    30,
+    40,
+    5000,
+    18,
+    3,
+    65535,
+    255,
+    0,
+    255,
+    0,
+    255,
+    0,
+    0,
+    0,
+    65535,
+    65535,
+    65535,
+    65535,
+    65535,
+    10,
+    4,
+    1300,
+    1,
+    2,
+    0,
+    0,
+    0,
+    300,
+    0,
+    0,
+    0,
+    0,
+    0,
+    0,
+    0,
+    12,
+    4,
+    1300,
+    3,
+    3,
+    0,
+    0,
+    0,
+    511,
+    1,
+    0,
+    0,
+    0,
+    0,
+    0,
+    9999,
+    14,
+    4,
+    2789,
+    0,
+    63,
+    0,
+    0,
+    0,
+    0,
+    1,
+    0,
+    0,
+    256,
+    1,
+    0,
+    0,
+    20,
+    4,
+    1081,
+    7,
+    8,
+    0,
+    0,
+    0,
+    12,
+    0,
+    0,
+    1,
+    2,
+    3,
+    4,
+    5,
+    20,
+    4,
+    65535,
+    255,
+    255,
+    0,
+    0,
+    0,
+    65535,
+    255,
+    0,
+    65535,
+    65535,
+    65535,
+    65535,
+    65535,
+    7,
+    5,
+    1395,
+    0,
+    0,
+    2,
+    0,
+    1,
+    0,
+    0,
+    0,
+    0,
+    0,
+    0,
+    0,
+    0,
+    7,
+    5,
+    65535,
+    0,
+    0,
+    255,
+    0,
+    255,
+    0,
+    0,
+    0,
+    0,
+    0,
+    0,
+    0,
+    0,
+];
+
+fn record_case(tally: &mut Tally, bytes: &[u8], expected: &[u32])
+    requires { ⌜ 16 ≡ length (now expected) ⌝ }
+{
+    if bytes.len() == 0 {
+        return;
+    }
+    if 20 < bytes.len() {
+        return;
+    }
+    let buffer = buffer_with(bytes);
+    read_case(tally, bytes, 0, expected);
+    read_case(tally, &buffer, 0, expected);
+    cut_cases(tally, bytes);
+    write_cases(tally, bytes);
 }
 
-fn profile_offers(before: Tally) -> Tally {
-    let mut tally = before;
-    tally = record_cases(
-        tally,
-        Fields(2, 1229, 0, 0, 0, 7, 0, 0, 0, 25),
-        Mw(0, 0, 0, 0, 0),
-        b"\x23\x40\x02\xCD\x04\x07\x19",
-    );
-    tally = record_cases(
-        tally,
-        Fields(2, 2000, 0, 0, 0, 1, 0, 0, 0, 24),
-        Mw(9999, 0, 0, 0, 0),
-        b"\x23\x42\x02\xD0\x07\x01\x0F\x27\x18",
-    );
-    tally = record_cases(
-        tally,
-        Fields(2, 65535, 0, 0, 0, 255, 0, 0, 0, 255),
-        Mw(65535, 0, 0, 0, 0),
-        b"\x23\x42\x02\xFF\xFF\xFF\xFF\xFF\xFF",
-    );
-    tally
+fn record_cases(tally: &mut Tally, records: &[u8], readings: &[u32])
+    requires { ⌜ 288 ≡ length (now readings) ⌝ }
+{
+    for k in 0..18 {
+        record_case(
+            tally,
+            part(records, b'|', k),
+            &readings[16 * k..16 * k + 16],
+        );
+    }
 }
 
-fn bids(before: Tally) -> Tally {
-    let mut tally = before;
-    tally = record_cases(
-        tally,
-        Fields(3, 1100, 2, 0, 0, 0, 1, 0, 0, 0),
-        Mw(50, 0, 0, 0, 0),
-        b"\x57\x02\x03\x4C\x04\x02\x00\x01\x32\x00",
-    );
-    tally = record_cases(
-        tally,
-        Fields(3, 1080, 0, 0, 0, 0, 1, 0, 0, 0),
-        Mw(0, 0, 0, 0, 0),
-        b"\x57\x00\x03\x38\x04\x00\x00\x01",
-    );
-    tally = record_cases(
-        tally,
-        Fields(3, 1500, 63, 0, 23, 0, 6, 0, 0, 0),
-        Mw(100, 150, 0, 200, 0),
-        b"\x57\x16\x03\xDC\x05\x3F\x17\x06\x64\x00\x96\x00\xC8\x00",
-    );
-    tally = record_cases(
-        tally,
-        Fields(3, 1289, 5, 0, 1, 0, 1, 0, 0, 0),
-        Mw(10, 20, 30, 40, 5000),
-        b"\x57\x3E\x03\x09\x05\x05\x01\x01\x0A\x00\x14\x00\x1E\x00\x28\x00\x88\x13",
-    );
-    tally = record_cases(
-        tally,
-        Fields(3, 65535, 255, 0, 255, 0, 255, 0, 0, 0),
-        Mw(65535, 65535, 65535, 65535, 65535),
-        b"\x57\x3E\x03\xFF\xFF\xFF\xFF\xFF\xFF\xFF\xFF\xFF\xFF\xFF\xFF\xFF\xFF\xFF",
-    );
-    tally
-}
-
-fn nominations(before: Tally) -> Tally {
-    let mut tally = before;
-    tally = record_cases(
-        tally,
-        Fields(4, 1300, 1, 2, 0, 0, 0, 300, 0, 0),
-        Mw(0, 0, 0, 0, 0),
-        b"\x8F\x01\x04\x14\x05\x01\x02\x2C\x01\x00",
-    );
-    tally = record_cases(
-        tally,
-        Fields(4, 1300, 3, 3, 0, 0, 0, 511, 1, 0),
-        Mw(0, 0, 0, 0, 9999),
-        b"\x8F\x21\x04\x14\x05\x03\x03\xFF\x01\x01\x0F\x27",
-    );
-    tally = record_cases(
-        tally,
-        Fields(4, 2789, 0, 63, 0, 0, 0, 0, 1, 0),
-        Mw(0, 256, 1, 0, 0),
-        b"\x8F\x0D\x04\xE5\x0A\x00\x3F\x00\x00\x01\x00\x01\x01\x00",
-    );
-    tally = record_cases(
-        tally,
-        Fields(4, 1081, 7, 8, 0, 0, 0, 12, 0, 0),
-        Mw(1, 2, 3, 4, 5),
-        b"\x8F\x3F\x04\x39\x04\x07\x08\x0C\x00\x00\x01\x00\x02\x00\x03\x00\x04\x00\x05\x00",
-    );
-    tally = record_cases(
-        tally,
-        Fields(4, 65535, 255, 255, 0, 0, 0, 65535, 255, 0),
-        Mw(65535, 65535, 65535, 65535, 65535),
-        b"\x8F\x3F\x04\xFF\xFF\xFF\xFF\xFF\xFF\xFF\xFF\xFF\xFF\xFF\xFF\xFF\xFF\xFF\xFF\xFF",
-    );
-    tally
-}
-
-fn matchings(before: Tally) -> Tally {
-    let mut tally = before;
-    tally = record_cases(
-        tally,
-        Fields(5, 1395, 0, 0, 2, 0, 1, 0, 0, 0),
-        Mw(0, 0, 0, 0, 0),
-        b"\x53\x00\x05\x73\x05\x02\x01",
-    );
-    tally = record_cases(
-        tally,
-        Fields(5, 65535, 0, 0, 255, 0, 255, 0, 0, 0),
-        Mw(0, 0, 0, 0, 0),
-        b"\x53\x00\x05\xFF\xFF\xFF\xFF",
-    );
-    tally
+fn kinds_cases(tally: &mut Tally) {
+    let records = RECORDS;
+    let readings = READINGS;
+    record_cases(tally, &records, &readings);
 }
 
 // ---- what the writer refuses
@@ -183,23 +581,20 @@ fn call_with(kind: u8, field: u32) -> CallRecord {
     }
 }
 
-// Each field that is foreign to the kind; a kind that is none has not even a time.
-fn foreign_cases(before: Tally, kind: u8) -> Tally {
-    let mut tally = before;
-    for field in 1..15 {
-        if (own_fields(kind) >> field) % 2 == 0 {
-            tally = write_case(tally, call_with(kind, field), 12, b"");
-        }
+// A field that is foreign to the kind; a kind that is none has not even a time.
+fn foreign_case(tally: &mut Tally, kind: u8, field: u32)
+    requires { ⌜ field < 15 ⌝ }
+{
+    if (own_fields(kind) >> field) % 2 == 0 {
+        write_case(tally, call_with(kind, field), 12, b"");
     }
-    tally
 }
 
-fn refused_writes(before: Tally) -> Tally {
-    let mut tally = before;
-    for kind in 0..=6 {
-        tally = foreign_cases(tally, kind);
+// Each field but the kind, for each kind and for 0 and 6.
+fn foreign_cases(tally: &mut Tally) {
+    for k in 0..98u8 {
+        foreign_case(tally, k / 14, 1 + k as u32 % 14);
     }
-    tally
 }
 
 // ---- damaged records
@@ -321,30 +716,21 @@ const DAMAGED: [u8; 3777] = *b"\
     nomination with MW 5 of 0:\x8F\x23\x04\x14\x05\x01\x02\x2C\x01\x01\x64\x00\x00\x00|\
 ";
 
-fn row_case(tally: Tally, row: &[u8]) -> Tally {
-    let colon = position(row, 0, b':');
-    if colon == row.len() {
-        return tally;
-    }
-    text(&row[0..colon]);
+fn damaged_case(tally: &mut Tally, row: &[u8]) {
+    text(part(row, b':', 0));
     text(b": ");
-    refused_case(tally, &row[colon + 1..])
+    refused_case(tally, part(row, b':', 1));
 }
 
-fn row_cases(before: Tally, rows: &[u8]) -> Tally {
-    let mut tally = before;
-    let mut from = 0;
-    while from < rows.len() {
-        let bar = position(rows, from, b'|');
-        tally = row_case(tally, &rows[from..bar]);
-        from = bar + 1;
+fn damaged_cases(tally: &mut Tally, rows: &[u8]) {
+    for k in 0..113 {
+        damaged_case(tally, part(rows, b'|', k));
     }
-    tally
 }
 
-pub fn run(tally: Tally) -> Tally {
-    let offers = profile_offers(direction_offers(tally));
-    let others = matchings(nominations(bids(offers)));
+pub fn run(tally: &mut Tally) {
+    kinds_cases(tally);
+    foreign_cases(tally);
     let rows = DAMAGED;
-    row_cases(refused_writes(others), &rows)
+    damaged_cases(tally, &rows);
 }

@@ -1,16 +1,15 @@
--- `cases_printing::fill` is safe and ends. The invariant: the position in the text stays within it.
+-- `cases_printing::fill` is safe and ends. The invariant: `k` is at most the count of numbers.
 -- Assumes nothing.
-use lib.ListN.{length}
 use borrow.Author.Needs.{needs}
 use Prim.Native.Nat.{_≤_, _-_}
 use Rattle.cases_printing.proofs.fill.Statement.{statement}
 use Rattle.cases_printing.proofs.fill.Tie as tie
 
 abbrev Inv-loop : tie.InvT-loop
-Inv-loop marked numbers from₀ k₀ k-end from k = (k ≤ k-end) × (from ≤ length marked)
+Inv-loop marked numbers k₀ k-end k = k ≤ k-end
 
 abbrev μ-loop : tie.MeasureT-loop
-μ-loop marked numbers from₀ k₀ k-end from k = k-end - k
+μ-loop marked numbers k₀ k-end k = k-end - k
 
 pub fill-spec : {M : Type 1} → statement M
 fill-spec =
@@ -20,14 +19,13 @@ fill-spec =
     μ-loop
     (λ c. search needs)
     (λ c κs. search needs)
+    (λ c κs. search needs)
     (λ c. search needs)
     (λ c. search needs)
     (λ c κs. search needs)
     (λ c. search needs)
     (λ c. search needs)
     (λ c. search needs)
-    (λ c. search needs)
-    (λ c. search needs)
-    (λ c. search needs)
+    (λ c κs. search needs)
     (λ c κs. search needs)
     (λ c. search needs))

@@ -7,10 +7,10 @@ use Rattle.cases.proofs.codes.list_cases.Statement.{statement}
 use Rattle.cases.proofs.codes.list_cases.Tie as tie
 
 abbrev Inv-loop : tie.InvT-loop
-Inv-loop codes expected tally₀ k₀ k-end tally k = (k ≤ k-end) × (16 * k-end ≤ length codes)
+Inv-loop tally₀ codes expected k₀ k-end tally k = (k ≤ k-end) × (16 * k-end ≤ length codes)
 
 abbrev μ-loop : tie.MeasureT-loop
-μ-loop codes expected tally₀ k₀ k-end tally k = k-end - k
+μ-loop tally₀ codes expected k₀ k-end tally k = k-end - k
 
 pub list-cases-spec : {M : Type 1} → statement M
 list-cases-spec =
