@@ -1,15 +1,13 @@
-// The call or read that a line makes. Its numbers fit their fields.
-ghost use Rattle.answers.specs.Promises.{Opens, Answers, ReadsDirection, ReadsProfile, ReadsRight, ReadsConfirmed};
-ghost use Rattle.rehearse_timed.specs.Timed.{byteAt, twoAt};
-ghost use Rattle.rehearse_calls.specs.Made.{directionOf, lineCall};
-use answers::ConfirmedRead;
-use answers::LeftRead;
-use answers::RightRead;
+// The call that a line makes. Its numbers fit their fields.
+ghost use mathlib.Core.Path.{_≡_};
+ghost use Prim.Native.Nat.{_≤_};
+ghost use Rattle.answers.specs.Promises.{Opens, Answers};
+ghost use Rattle.rehearse_numbers.specs.Fields.{byteAt};
+ghost use Rattle.rehearse_calls.specs.Made.{fiveFrom, directionOf, offerOf, profileOfferOf, bidOf, nominateOf, matchOf, timedCall, lineCall};
 use cells::Book;
 use rules::Answer;
 use rules::Hour;
-
-// ---- calls
+use rules::Session;
 
 pub fn open(book: &mut Book, given: [u64; 10]) -> Answer
     ensures { λ r. ⌜ Opens (byteAt given 0) (byteAt given 1) r (now (book .exit)) ⌝ }
@@ -17,67 +15,116 @@ pub fn open(book: &mut Book, given: [u64; 10]) -> Answer
     daybook::open_day(book, (given[0] % 256) as u8, (given[1] % 256) as u8)
 }
 
+// ---- calls with a time
+
+fn offer(book: &mut Book, given: [u64; 10]) -> Answer
+    ensures { λ r. ⌜ Answers (now (book .entry)) (offerOf given) r (now (book .exit)) ⌝ }
+{
+    let time = (given[0] % 4294967296) as u32;
+    let direction = (given[1] % 256) as u8;
+    let hour = Hour((given[2] % 256) as u8);
+    let mw = (given[3] % 65536) as u16;
+    daybook::offer_direction(book, time, direction, hour, mw)
+}
+
+fn offer_of_profile(book: &mut Book, given: [u64; 10]) -> Answer
+    ensures { λ r. ⌜ Answers (now (book .entry)) (profileOfferOf given) r (now (book .exit)) ⌝ }
+{
+    let time = (given[0] % 4294967296) as u32;
+    let profile = (given[1] % 256) as u8;
+    let hour = Hour((given[2] % 256) as u8);
+    let mw = (given[3] % 65536) as u16;
+    daybook::offer_profile(book, time, profile, hour, mw)
+}
+
+// Five MW, from one of the numbers on.
+fn five(given: [u64; 10], from: usize) -> [u16; 5]
+    requires { ⌜ from ≤ 5 ⌝ }
+    ensures { λ r. ⌜ r ≡ fiveFrom given from ⌝ }
+{
+    [
+        (given[from] % 65536) as u16,
+        (given[from + 1] % 65536) as u16,
+        (given[from + 2] % 65536) as u16,
+        (given[from + 3] % 65536) as u16,
+        (given[from + 4] % 65536) as u16,
+    ]
+}
+
+fn bid(book: &mut Book, given: [u64; 10]) -> Answer
+    ensures { λ r. ⌜ Answers (now (book .entry)) (bidOf given) r (now (book .exit)) ⌝ }
+{
+    let time = (given[0] % 4294967296) as u32;
+    let party = (given[1] % 256) as u8;
+    let direction = (given[2] % 256) as u8;
+    let session = Session((given[3] % 256) as u8);
+    let mw = five(given, 4);
+    daybook::bid(book, time, party, direction, session, mw)
+}
+
+fn nominate(book: &mut Book, given: [u64; 10]) -> Answer
+    ensures { λ r. ⌜ Answers (now (book .entry)) (nominateOf given) r (now (book .exit)) ⌝ }
+{
+    let time = (given[0] % 4294967296) as u32;
+    let sender = (given[1] % 256) as u8;
+    let other = (given[2] % 256) as u8;
+    let right = (given[3] % 65536) as u16;
+    let side = (given[4] % 256) as u8;
+    let mw = five(given, 5);
+    daybook::nominate(book, time, sender, other, right, side, mw)
+}
+
+fn match_session(book: &mut Book, given: [u64; 10]) -> Answer
+    ensures { λ r. ⌜ Answers (now (book .entry)) (matchOf given) r (now (book .exit)) ⌝ }
+{
+    let time = (given[0] % 4294967296) as u32;
+    let direction = (given[1] % 256) as u8;
+    let session = Session((given[2] % 256) as u8);
+    daybook::match_session(book, time, direction, session)
+}
+
+// By the kind of the line, from an offer to a matching.
+fn timed_call(book: &mut Book, kind: usize, given: [u64; 10]) -> Answer
+    ensures { λ r. ⌜ Answers (now (book .entry)) (timedCall kind given) r (now (book .exit)) ⌝ }
+{
+    if kind == rehearse_lines::OFFER {
+        return offer(book, given);
+    }
+    if kind == rehearse_lines::OFFER_OF_PROFILE {
+        return offer_of_profile(book, given);
+    }
+    if kind == rehearse_lines::BID {
+        return bid(book, given);
+    }
+    if kind == rehearse_lines::NOMINATE {
+        return nominate(book, given);
+    }
+    match_session(book, given)
+}
+
+// ---- every call
+
 fn add_direction(book: &mut Book, given: [u64; 10]) -> Answer
     ensures { λ r. ⌜ Answers (now (book .entry)) (directionOf given) r (now (book .exit)) ⌝ }
 {
-    daybook::add_direction(
-        book,
-        (given[0] % 256) as u8,
-        (given[1] % 256) as u8,
-        (given[2] % 256) as u8,
-    )
+    let out = (given[0] % 256) as u8;
+    let into = (given[1] % 256) as u8;
+    let model = (given[2] % 256) as u8;
+    daybook::add_direction(book, out, into, model)
 }
 
 // By the kind of the line, from a direction to a matching.
-pub fn call(
-    book: &mut Book,
-    kind: usize,
-    profile: bool,
-    given: [u64; 10],
-    directions: u32,
-    code: [u8; 16],
-) -> Answer
-    ensures { λ r. ⌜ Answers (now (book .entry)) (lineCall kind profile given directions code) r (now (book .exit)) ⌝ }
+pub fn call(book: &mut Book, kind: usize, given: [u64; 10], code: [u8; 16]) -> Answer
+    ensures { λ r. ⌜ Answers (now (book .entry)) (lineCall kind given code) r (now (book .exit)) ⌝ }
 {
     if kind == rehearse_lines::DIRECTION {
         return add_direction(book, given);
     }
     if kind == rehearse_lines::PROFILE {
-        return daybook::add_profile(book, directions);
+        return daybook::add_profile(book, (given[0] % 4294967296) as u32);
     }
     if kind == rehearse_lines::PARTY {
         return daybook::add_party(book, code, (given[0] % 256) as u8);
     }
-    rehearse_timed::timed_call(book, kind, profile, given)
-}
-
-// ---- reads
-
-pub fn left_of_direction(book: &Book, given: [u64; 10]) -> LeftRead
-    ensures { λ r. ⌜ ReadsDirection (now (book .entry)) (byteAt given 0) (byteAt given 1) r ⌝ }
-{
-    daybook::left_of_direction(book, (given[0] % 256) as u8, Hour((given[1] % 256) as u8))
-}
-
-pub fn left_of_profile(book: &Book, given: [u64; 10]) -> LeftRead
-    ensures { λ r. ⌜ ReadsProfile (now (book .entry)) (byteAt given 0) (byteAt given 1) r ⌝ }
-{
-    daybook::left_of_profile(book, (given[0] % 256) as u8, Hour((given[1] % 256) as u8))
-}
-
-pub fn right(book: &Book, given: [u64; 10]) -> RightRead
-    ensures { λ r. ⌜ ReadsRight (now (book .entry)) (twoAt given 0) r ⌝ }
-{
-    daybook::right_at(book, (given[0] % 65536) as u16)
-}
-
-pub fn confirmed(book: &Book, given: [u64; 10]) -> ConfirmedRead
-    ensures { λ r. ⌜ ReadsConfirmed (now (book .entry)) (twoAt given 0) (byteAt given 1) (byteAt given 2) r ⌝ }
-{
-    daybook::confirmed_of(
-        book,
-        (given[0] % 65536) as u16,
-        (given[1] % 256) as u8,
-        (given[2] % 256) as u8,
-    )
+    timed_call(book, kind, given)
 }

@@ -3,31 +3,33 @@
 // In a pattern a letter begins a word, and | stands between two words, of which a line has one. 1, 2 and 4 stand for a number of so many bytes,
 // ? for MW that may be left out, * for any count of directions, @ for a party code. A comma stands for itself, a colon for itself or for no MW at all.
 // = begins the numbers expected, + stands for these, and ; ends the pattern.
-mod wanted;
-
 use rehearse_numbers::Digits;
 use rehearse_numbers::digits_from;
 use rehearse_numbers::fits;
 use rehearse_text::Numbers;
+use rehearse_text::and;
 use rehearse_text::byte_at;
 use rehearse_text::is_break;
-use rehearse_text::past_entry;
+use rehearse_text::is_letter;
+use rehearse_text::none;
+use rehearse_text::number_at;
+use rehearse_text::past_byte;
 use rehearse_text::past_spaces;
 use rehearse_text::past_word;
 use std::num::wrapping_add_usize;
-pub use wanted::put_wanted;
+use std::num::wrapping_sub_usize;
 
-// In the order of the kinds below.
-const PATTERNS: [u8; 394] = *b"\
+// In the order of the kinds below. Where a line has the second of two words its kind is one more, and no pattern stands at that kind.
+pub const PATTERNS: [u8; 396] = *b"\
     open 1 hours, weekday 1 =+;\
     direction 1 to 1, model 1 =+;\
     profile of directions * =+;\
     party @, access 1 =+;\
-    offer at 4, direction|profile 1, hour 1: ? =+;\
+    offer at 4, direction|profile 1, hour 1: ? =+;;\
     bid at 4, party 1, direction 1, session 1: ? ? ? ? ? =+;\
     nominate at 4, party 1, other 1, right 2, side 1: ? ? ? ? ? =+;\
     match at 4, direction 1, session 1 =+;\
-    left of direction|profile 1, hour 1 =+;\
+    left of direction|profile 1, hour 1 =+;;\
     right 2 =+;\
     confirmed of right 2, out 1, in 1 =+;\
 ";
@@ -43,21 +45,29 @@ pub const PARTY: usize = 3;
 
 pub const OFFER: usize = 4;
 
-pub const BID: usize = 5;
+pub const OFFER_OF_PROFILE: usize = 5;
 
-pub const NOMINATE: usize = 6;
+pub const BID: usize = 6;
 
-pub const MATCH: usize = 7;
+pub const NOMINATE: usize = 7;
 
-pub const LEFT: usize = 8;
+pub const MATCH: usize = 8;
 
-pub const RIGHT: usize = 9;
+pub const LEFT: usize = 9;
 
-pub const CONFIRMED: usize = 10;
+pub const LEFT_OF_PROFILE: usize = 10;
 
-const KINDS: usize = 11;
+pub const RIGHT: usize = 11;
 
-// How far the match is: still under way; the line fits; another word stands at `at` than `place` wants; the number at `at` is too large.
+pub const CONFIRMED: usize = 12;
+
+const KINDS: usize = 13;
+
+// The most bytes of a line, without its end.
+pub const LONGEST: usize = 200;
+
+// What is found of a line: the match is under way; the line fits; another word stands at `at` than `place` wants; the number at `at` is too large;
+// it fits, and no open was called; it is too long; it is empty or a comment, and passed on.
 const UNDER_WAY: u8 = 0;
 
 pub const FITS: u8 = 1;
@@ -66,7 +76,13 @@ pub const OTHER: u8 = 2;
 
 pub const LARGE: u8 = 3;
 
-// What stands in a line up to `at`, which fits the patterns up to `place`.
+pub const UNOPENED: u8 = 4;
+
+pub const LONG: u8 = 5;
+
+pub const PASSED_ON: u8 = 6;
+
+// What stands in a line up to `at`, which fits the patterns up to `place`. The map of a profile's directions is its first number.
 pub struct Found {
     pub state: u8,
     pub kind: usize,
@@ -74,23 +90,18 @@ pub struct Found {
     pub at: usize,
     pub given: Numbers,
     pub expected: Numbers,
-    pub directions: u32,
-    pub is_profile: bool,
     pub code: usize,
 }
 
-fn begun(kind: usize, place: usize) -> Found {
-    let given = rehearse_text::none();
-    let expected = rehearse_text::none();
+fn begun(state: u8, kind: usize, place: usize) -> Found {
+    let none = rehearse_text::none();
     Found {
-        state: UNDER_WAY,
+        state,
         kind,
         place,
         at: 0,
-        given,
-        expected,
-        directions: 0,
-        is_profile: false,
+        given: none,
+        expected: none,
         code: 0,
     }
 }
@@ -100,41 +111,11 @@ fn with_state(mut found: Found, state: u8) -> Found {
     found
 }
 
-// On to a position of the line and one of the patterns.
-fn moved(mut found: Found, at: usize, place: usize) -> Found {
-    found.at = at;
-    found.place = place;
-    found
-}
-
-// On to a position of the line, with the next mark.
-fn passed(found: Found, at: usize) -> Found {
-    let place = wrapping_add_usize(found.place, 1);
-    moved(found, at, place)
-}
-
 // ---- words
-
-// The position past the letters.
-fn past_letters(table: &[u8], place: usize) -> usize {
-    for at in place..table.len() {
-        if !rehearse_text::is_letter(byte_at(table, at)) {
-            return at;
-        }
-    }
-    table.len()
-}
 
 // A word begins after a space, a comma or a colon, and at the line's beginning.
 fn may_begin(line: &[u8], at: usize, from: usize) -> bool {
-    if from != at {
-        return true;
-    }
-    if at == 0 {
-        return true;
-    }
-    let before = byte_at(line, at - 1);
-    before == b',' || before == b':'
+    from != at || is_break(byte_at(line, wrapping_sub_usize(at, 1)))
 }
 
 // The position past the next word, where it is the wanted one, or else `at`.
@@ -147,183 +128,189 @@ fn past_next(table: &[u8], place: usize, line: &[u8], at: usize) -> usize {
     if end == from { at } else { end }
 }
 
-fn one_of_two(table: &[u8], line: &[u8], found: Found, bar: usize) -> Found {
-    let at = found.at;
-    let second = wrapping_add_usize(bar, 1);
-    let after = past_letters(table, second);
-    let end = past_next(table, found.place, line, at);
+// ---- what a mark stands for: its number, and the position past it, which is `at` where it doesn't stand there
+
+// 1 for the second of two words.
+fn next_word(table: &[u8], place: usize, line: &[u8], at: usize) -> Digits {
+    let end = past_next(table, place, line, at);
     if end != at {
-        return moved(found, end, after);
+        return Digits { value: 0, end };
     }
-    let other_end = past_next(table, second, line, at);
-    if other_end == at {
-        return with_state(found, OTHER);
+    let second = past_byte(table, place, b'|');
+    if past_mark(table, place) < second {
+        return Digits { value: 0, end };
     }
-    let mut fitting = moved(found, other_end, after);
-    fitting.is_profile = true;
-    fitting
+    Digits {
+        value: 1,
+        end: past_next(table, second, line, at),
+    }
 }
 
-fn word(table: &[u8], line: &[u8], found: Found) -> Found {
-    let at = found.at;
-    let after = past_letters(table, found.place);
-    if byte_at(table, after) == b'|' {
-        return one_of_two(table, line, found, after);
-    }
-    let end = past_next(table, found.place, line, at);
-    if end == at {
-        return with_state(found, OTHER);
-    }
-    moved(found, end, after)
-}
-
-// ---- numbers
-
-// The number that is the next word; where no number is, it ends at `at`.
 fn next_number(line: &[u8], at: usize) -> Digits {
-    let none = Digits { value: 0, end: at };
     let from = past_spaces(line, at);
-    if !may_begin(line, at, from) {
-        return none;
-    }
     let digits = digits_from(line, from);
-    if digits.end == from || !is_break(byte_at(line, digits.end)) {
-        return none;
+    if digits.end != from && may_begin(line, at, from) && is_break(byte_at(line, digits.end)) {
+        return digits;
     }
-    digits
-}
-
-fn with_given(mut found: Found, value: u64) -> Found {
-    let before = found.given;
-    let given = rehearse_text::and(before, value);
-    found.given = given;
-    found
-}
-
-fn number(line: &[u8], found: Found, mark: u8) -> Found {
-    let digits = next_number(line, found.at);
-    if digits.end == found.at {
-        return with_state(found, OTHER);
-    }
-    if !fits(digits.value, mark) {
-        return with_state(found, LARGE);
-    }
-    passed(with_given(found, digits.value), digits.end)
-}
-
-// MW, two bytes each, up to the end of the call.
-fn megawatts(line: &[u8], found: Found) -> Found {
-    if is_over(line, found.at) {
-        return passed(found, found.at);
-    }
-    number(line, found, b'2')
-}
-
-fn bit_of(direction: u64) -> u32 {
-    if direction < 32 {
-        1u32 << (direction as u32)
-    } else {
-        0
-    }
-}
-
-// A direction's bit is added to the map, up to the end of the call.
-fn direction(line: &[u8], found: Found) -> Found {
-    if is_over(line, found.at) {
-        return passed(found, found.at);
-    }
-    let digits = next_number(line, found.at);
-    if digits.end == found.at {
-        return with_state(found, OTHER);
-    }
-    if !fits(digits.value, b'*') {
-        return with_state(found, LARGE);
-    }
-    let mut more = moved(found, digits.end, found.place);
-    more.directions = found.directions | bit_of(digits.value);
-    more
-}
-
-// Numbers expected, one at least, up to the end of the line.
-fn expected(line: &[u8], found: Found) -> Found {
-    let before = found.expected;
-    if 0 < before.count && is_line_over(line, found.at) {
-        return passed(found, found.at);
-    }
-    let digits = next_number(line, found.at);
-    if digits.end == found.at {
-        return with_state(found, OTHER);
-    }
-    let mut more = moved(found, digits.end, found.place);
-    let after = rehearse_text::and(before, digits.value);
-    more.expected = after;
-    more
-}
-
-// ---- the end, a comma, a colon, a code
-
-fn is_line_over(line: &[u8], at: usize) -> bool {
-    line.len() <= past_spaces(line, at)
-}
-
-// Whether an equals sign is the next word.
-fn is_equals(line: &[u8], at: usize) -> bool {
-    let from = past_spaces(line, at);
-    from != at && byte_at(line, from) == b'=' && byte_at(line, wrapping_add_usize(from, 1)) == b' '
-}
-
-// Nothing is left, or just the numbers expected.
-fn is_over(line: &[u8], at: usize) -> bool {
-    is_line_over(line, at) || is_equals(line, at)
-}
-
-fn equals(line: &[u8], found: Found) -> Found {
-    if is_line_over(line, found.at) {
-        return with_state(found, FITS);
-    }
-    if !is_equals(line, found.at) {
-        return with_state(found, OTHER);
-    }
-    passed(found, wrapping_add_usize(past_spaces(line, found.at), 1))
-}
-
-// A comma or a colon follows directly.
-fn sign(line: &[u8], found: Found, mark: u8) -> Found {
-    if byte_at(line, found.at) == mark {
-        return passed(found, wrapping_add_usize(found.at, 1));
-    }
-    with_state(found, OTHER)
-}
-
-fn colon(line: &[u8], found: Found) -> Found {
-    if is_over(line, found.at) {
-        return passed(found, found.at);
-    }
-    sign(line, found, b':')
+    Digits { value: 0, end: at }
 }
 
 fn ends_code(byte: u8) -> bool {
     byte == b' ' || byte == b','
 }
 
-// Sixteen bytes and no more.
-fn is_code(line: &[u8], from: usize) -> bool {
+// The position past sixteen bytes, where they and no more stand here, or else `from`.
+fn past_code(line: &[u8], from: usize) -> usize {
     for k in 0..16 {
         if ends_code(byte_at(line, wrapping_add_usize(from, k))) {
-            return false;
+            return from;
         }
     }
-    ends_code(byte_at(line, wrapping_add_usize(from, 16)))
+    let end = wrapping_add_usize(from, 16);
+    if ends_code(byte_at(line, end)) {
+        end
+    } else {
+        from
+    }
 }
 
-fn code(line: &[u8], found: Found) -> Found {
-    let from = past_spaces(line, found.at);
-    if from == found.at || !is_code(line, from) {
+// A code's number is where it begins.
+fn next_code(line: &[u8], at: usize) -> Digits {
+    let from = past_spaces(line, at);
+    let end = past_code(line, from);
+    if from == at || end == from {
+        return Digits { value: 0, end: at };
+    }
+    Digits {
+        value: from as u64,
+        end,
+    }
+}
+
+// An equals sign is a word.
+fn past_equals(line: &[u8], at: usize) -> usize {
+    let from = past_spaces(line, at);
+    let end = wrapping_add_usize(from, 1);
+    if from != at && byte_at(line, from) == b'=' && byte_at(line, end) == b' ' {
+        return end;
+    }
+    at
+}
+
+// A comma or a colon follows directly.
+fn past_sign(line: &[u8], at: usize, mark: u8) -> usize {
+    if byte_at(line, at) == mark {
+        return wrapping_add_usize(at, 1);
+    }
+    at
+}
+
+fn next_of(table: &[u8], place: usize, line: &[u8], at: usize, mark: u8) -> Digits {
+    match mark {
+        b'1' | b'2' | b'4' | b'?' | b'*' | b'+' => next_number(line, at),
+        b',' | b':' => Digits {
+            value: 0,
+            end: past_sign(line, at, mark),
+        },
+        b'=' => Digits {
+            value: 0,
+            end: past_equals(line, at),
+        },
+        b'@' => next_code(line, at),
+        _ => next_word(table, place, line, at),
+    }
+}
+
+// ---- a mark is passed
+
+// The position past a mark: a word, two words with a bar between them, or a sign.
+pub fn past_mark(table: &[u8], place: usize) -> usize {
+    for at in wrapping_add_usize(place, 1)..table.len() {
+        let byte = byte_at(table, at);
+        if !is_letter(byte) && byte != b'|' {
+            return at;
+        }
+    }
+    table.len()
+}
+
+// On to a position of the line, and to the next mark.
+fn moved(table: &[u8], mut found: Found, at: usize) -> Found {
+    found.at = at;
+    found.place = past_spaces(table, past_mark(table, found.place));
+    found
+}
+
+fn is_line_over(line: &[u8], at: usize) -> bool {
+    line.len() <= past_spaces(line, at)
+}
+
+// What the mark stands for may be left out: at the end of the call, or after the numbers expected.
+fn may_lack(line: &[u8], found: Found, mark: u8) -> bool {
+    let at = found.at;
+    match mark {
+        b'?' | b'*' | b':' => is_line_over(line, at) || past_equals(line, at) != at,
+        b'=' => is_line_over(line, at),
+        b'+' => 0 < found.expected.count && is_line_over(line, at),
+        _ => false,
+    }
+}
+
+fn lacking(table: &[u8], line: &[u8], found: Found, mark: u8) -> Found {
+    if !may_lack(line, found, mark) {
         return with_state(found, OTHER);
     }
-    let mut fitting = passed(found, wrapping_add_usize(from, 16));
-    fitting.code = from;
-    fitting
+    if mark == b'=' || mark == b'+' {
+        return with_state(found, FITS);
+    }
+    moved(table, found, found.at)
+}
+
+fn is_large(value: u64, mark: u8) -> bool {
+    match mark {
+        b'1' | b'2' | b'4' | b'*' => !fits(value, mark),
+        b'?' => !fits(value, b'2'),
+        _ => false,
+    }
+}
+
+// A direction's bit is added to the map.
+fn with_direction(given: Numbers, direction: u64) -> Numbers {
+    let map = number_at(given, 0);
+    if direction < 32 {
+        return and(none(), map | (1u64 << (direction as u32)));
+    }
+    given
+}
+
+// With the number of a mark that is passed; of words it is added to the kind.
+fn stored(mut found: Found, mark: u8, value: u64) -> Found {
+    match mark {
+        b'1' | b'2' | b'4' | b'?' => {
+            let given = and(found.given, value);
+            found.given = given;
+        }
+        b'@' => {
+            found.code = value as usize;
+        }
+        _ => {
+            found.kind = wrapping_add_usize(found.kind, value as usize);
+        }
+    }
+    found
+}
+
+// A direction, or a number expected: the mark stays.
+fn repeated(mut found: Found, mark: u8, digits: Digits) -> Found {
+    found.at = digits.end;
+    if mark == b'*' {
+        let given = with_direction(found.given, digits.value);
+        found.given = given;
+        return found;
+    }
+    let expected = and(found.expected, digits.value);
+    found.expected = expected;
+    found
 }
 
 // ---- the whole line
@@ -331,19 +318,17 @@ fn code(line: &[u8], found: Found) -> Found {
 // By the next mark of the pattern.
 fn step(table: &[u8], line: &[u8], found: Found) -> Found {
     let mark = byte_at(table, found.place);
-    match mark {
-        b' ' => passed(found, found.at),
-        b'1' | b'2' | b'4' => number(line, found, mark),
-        b'?' => megawatts(line, found),
-        b'*' => direction(line, found),
-        b',' => sign(line, found, mark),
-        b':' => colon(line, found),
-        b'@' => code(line, found),
-        b'=' => equals(line, found),
-        b'+' => expected(line, found),
-        b';' => with_state(found, FITS),
-        _ => word(table, line, found),
+    let digits = next_of(table, found.place, line, found.at, mark);
+    if digits.end == found.at {
+        return lacking(table, line, found, mark);
     }
+    if is_large(digits.value, mark) {
+        return with_state(found, LARGE);
+    }
+    if mark == b'*' || mark == b'+' {
+        return repeated(found, mark, digits);
+    }
+    stored(moved(table, found, digits.end), mark, digits.value)
 }
 
 // More steps than a pattern's marks and a line's numbers take.
@@ -365,17 +350,47 @@ fn chosen(table: &[u8], line: &[u8]) -> Found {
     let mut place = 0;
     for kind in 0..KINDS {
         if past_next(table, place, line, 0) != 0 {
-            return begun(kind, place);
+            return begun(UNDER_WAY, kind, place);
         }
-        place = past_entry(table, place);
+        place = past_byte(table, place, b';');
     }
-    with_state(begun(KINDS, place), OTHER)
+    begun(OTHER, KINDS, place)
 }
 
-fn match_in(table: &[u8], line: &[u8]) -> Found {
+fn match_line(line: &[u8]) -> Found {
+    let table: &[u8] = &PATTERNS;
     walk(table, line, chosen(table, line))
 }
 
-pub fn match_line(line: &[u8]) -> Found {
-    match_in(&PATTERNS, line)
+// The byte order mark with which some editors begin a file of UTF-8.
+fn has_order_mark(line: &[u8]) -> bool {
+    byte_at(line, 0) == 0xEF && byte_at(line, 1) == 0xBB && byte_at(line, 2) == 0xBF
+}
+
+// Where a line of so many bytes begins: past such a mark.
+pub fn start_of(line: &[u8], count: usize) -> usize {
+    if 3 <= count && count <= LONGEST && has_order_mark(line) {
+        return 3;
+    }
+    0
+}
+
+fn is_passed_on(line: &[u8]) -> bool {
+    let first = past_spaces(line, 0);
+    byte_at(line, first) == b'#' || line.len() <= first
+}
+
+// What a line asks for, whether it was opened before or not.
+pub fn read(line: &[u8], opened: bool) -> Found {
+    if LONGEST < line.len() {
+        return begun(LONG, KINDS, 0);
+    }
+    if is_passed_on(line) {
+        return begun(PASSED_ON, KINDS, 0);
+    }
+    let found = match_line(line);
+    if found.state == FITS && found.kind != OPEN && !opened {
+        return with_state(found, UNOPENED);
+    }
+    found
 }

@@ -17,6 +17,46 @@ pub fn past_spaces(line: &[u8], from: usize) -> usize {
     past_all(line, from, b' ')
 }
 
+// The position past the first byte of this kind, or the table's end.
+pub fn past_byte(table: &[u8], from: usize, byte: u8) -> usize {
+    for at in from..table.len() {
+        if byte_at(table, at) == byte {
+            return std::num::wrapping_add_usize(at, 1);
+        }
+    }
+    table.len()
+}
+
+// The position of an entry by its number, from 0; a semicolon ends each.
+pub fn entry_at(table: &[u8], number: usize) -> usize {
+    let mut place = 0;
+    for k in 0..number {
+        place = past_byte(table, place, b';');
+    }
+    place
+}
+
+// ---- a line as it comes
+
+// One more byte of a line that has `count`, and its count then; where there is no more room, one more than the room.
+pub fn keep(line: &mut [u8], count: usize, byte: u8) -> usize {
+    if count < line.len() {
+        line[count] = byte;
+        return count + 1;
+    }
+    std::num::wrapping_add_usize(line.len(), 1)
+}
+
+// CR before LF belongs to the line's end.
+pub fn without_return(line: &[u8], count: usize) -> usize {
+    let last = std::num::wrapping_sub_usize(count, 1);
+    if byte_at(line, last) == b'\r' {
+        last
+    } else {
+        count
+    }
+}
+
 // ---- words
 
 pub fn is_letter(byte: u8) -> bool {
@@ -47,23 +87,11 @@ pub fn past_word(table: &[u8], place: usize, line: &[u8], from: usize) -> usize 
     from
 }
 
-// ---- tables
-
-// The position past the semicolon that ends an entry of a table, or the table's end.
-pub fn past_entry(table: &[u8], from: usize) -> usize {
-    for at in from..table.len() {
-        if byte_at(table, at) == b';' {
-            return std::num::wrapping_add_usize(at, 1);
-        }
+// The sixteen bytes of a party code.
+pub fn code_at(line: &[u8], from: usize) -> [u8; 16] {
+    let mut code = [0u8; 16];
+    for k in 0..16 {
+        code[k] = byte_at(line, std::num::wrapping_add_usize(from, k));
     }
-    table.len()
-}
-
-// The position of an entry by its number, from 0.
-pub fn entry_at(table: &[u8], number: usize) -> usize {
-    let mut place = 0;
-    for k in 0..number {
-        place = past_entry(table, place);
-    }
-    place
+    code
 }

@@ -3,16 +3,19 @@ mod input;
 mod output;
 
 pub use input::byte_at;
+pub use input::code_at;
 pub use input::is_break;
 pub use input::is_letter;
+pub use input::keep;
 pub use input::past_all;
-pub use input::past_entry;
+pub use input::past_byte;
 pub use input::past_spaces;
 pub use input::past_word;
-pub use output::fill;
+pub use input::without_return;
+pub use output::TEXT;
+pub use output::Text;
 pub use output::fill_entry;
-pub use output::put;
-pub use output::put_number;
+pub use output::put_byte;
 pub use output::put_part;
 pub use output::put_shown;
 
@@ -33,27 +36,22 @@ pub fn none() -> Numbers {
 }
 
 // One number more.
-pub fn and(before: Numbers, value: u64) -> Numbers {
-    let count = before.count;
-    let more = std::num::wrapping_add_usize(count, 1);
-    let mut values = before.values;
-    if MOST <= count {
-        return Numbers {
-            count: more,
-            values,
-        };
+pub fn and(mut numbers: Numbers, value: u64) -> Numbers {
+    let place = numbers.count;
+    if place < MOST {
+        numbers.values[place] = value;
     }
-    values[count] = value;
-    Numbers {
-        count: more,
-        values,
-    }
+    numbers.count = std::num::wrapping_add_usize(place, 1);
+    numbers
 }
 
 // The number at a place from 0, and 0 past the last.
 pub fn number_at(numbers: Numbers, place: usize) -> u64 {
-    let values = numbers.values;
-    if place < MOST { values[place] } else { 0 }
+    if place < MOST {
+        numbers.values[place]
+    } else {
+        0
+    }
 }
 
 pub fn same(one: Numbers, other: Numbers) -> bool {

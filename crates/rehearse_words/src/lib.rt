@@ -1,105 +1,234 @@
-// What an answer's numbers mean, in words.
+// What is said of a line: the numbers of its answer and these in words, or why it has none.
+mod forms;
+
+use forms::hours_of;
+use forms::say;
+use rehearse_lines::Found;
 use rehearse_text::Numbers;
-use rehearse_text::fill_entry;
+use rehearse_text::Text;
+use rehearse_text::and;
+use rehearse_text::byte_at;
+use rehearse_text::none;
 use rehearse_text::number_at;
-use rehearse_text::put;
-use rehearse_text::put_number;
+use rehearse_text::past_all;
+use rehearse_text::past_byte;
+use rehearse_text::past_spaces;
+use rehearse_text::put_byte;
+use rehearse_text::put_part;
+use rehearse_text::put_shown;
+use std::num::wrapping_add_u64;
+use std::num::wrapping_add_usize;
+use std::num::wrapping_sub_usize;
 
-// ---- refusals
+// ---- a line that is answered
 
-// The direction or the profile that is short.
-fn put_capacity(text: &mut [u8], at: usize, capacity: u64) -> usize {
+// The direction is short, or a profile, whose number is one less.
+fn put_short(text: &mut Text, at: usize, mut numbers: Numbers) -> usize {
+    let capacity = number_at(numbers, 2);
     if capacity == 0 {
-        return put(text, at, b"direction");
+        return say(text, at, forms::SHORT, numbers);
     }
-    let end = put(text, at, b"profile ");
-    put_number(text, end, capacity - 1)
+    numbers.values[2] = capacity - 1;
+    say(text, at, forms::SHORT_OF_PROFILE, numbers)
 }
 
-// In the order of their numbers; 0 is none.
-const REFUSALS: [u8; 107] = *b"\
-    ;record;day;field;set-up shut;clock;unknown;taken;gate;hours;access;owner;cycle;full;below;\
-    short: hour #, ;\
-";
-
-fn put_refusal(text: &mut [u8], at: usize, numbers: Numbers) -> usize {
-    let number = number_at(numbers, 0);
-    let end = fill_entry(text, at, &REFUSALS, number as usize, numbers, 1);
-    if number == 15 {
-        return put_capacity(text, end, number_at(numbers, 2));
-    }
-    end
-}
-
-// ---- grants
-
-fn put_plural(text: &mut [u8], at: usize, one: bool) -> usize {
-    if one {
-        return at;
-    }
-    put(text, at, b"s")
-}
-
-// One hour of the session, where its mark stands.
-fn put_hour(text: &mut [u8], at: usize, marks: u64, hour: u32) -> usize {
-    if 63 < hour {
-        return at;
-    }
-    if (marks >> hour) % 2 == 0 {
-        return at;
-    }
-    let space = put(text, at, b" ");
-    put_number(text, space, hour as u64 + 1)
-}
-
-fn put_hours(text: &mut [u8], at: usize, marks: u64) -> usize {
-    let mut end = at;
-    for hour in 0..5 {
-        end = put_hour(text, end, marks, hour);
-    }
-    end
-}
-
-fn is_one_hour(marks: u64) -> bool {
-    match marks {
-        1 | 2 | 4 | 8 | 16 => true,
-        _ => false,
-    }
-}
-
-// The hours of the session in which nominations are above the right.
-fn put_above(text: &mut [u8], at: usize, marks: u64) -> usize {
-    if marks == 0 {
-        return at;
-    }
-    let above = put(text, at, b": above the right in hour");
-    let plural = put_plural(text, above, is_one_hour(marks));
-    let end = put_hours(text, plural, marks);
-    put(text, end, b" of the session")
-}
-
-// In the order of the kinds of lines.
-const GRANTS: [u8; 205] = *b"\
-    granted;granted: direction #;granted: profile #;granted: party #;\
-    granted: # MW left;granted: right #;granted;granted: # right;\
-    # MW left;party #, direction #, session #, # # # # # MW;# # # # # MW confirmed;\
-";
-
-fn put_granted(text: &mut [u8], at: usize, kind: usize, numbers: Numbers) -> usize {
+fn put_granted(text: &mut Text, at: usize, kind: usize, numbers: Numbers) -> usize {
     let detail = number_at(numbers, 1);
-    let end = fill_entry(text, at, &GRANTS, kind, numbers, 1);
     if kind == rehearse_lines::NOMINATE {
-        return put_above(text, end, detail);
+        let hours = hours_of(detail);
+        return say(
+            text,
+            at,
+            wrapping_add_usize(forms::ABOVE, hours.count),
+            hours,
+        );
     }
-    if kind == rehearse_lines::MATCH {
-        return put_plural(text, end, detail == 1);
+    if kind == rehearse_lines::MATCH && detail == 1 {
+        return say(text, at, forms::ONE_RIGHT, numbers);
+    }
+    say(text, at, wrapping_add_usize(forms::GRANTED, kind), numbers)
+}
+
+fn put_words(text: &mut Text, at: usize, kind: usize, numbers: Numbers) -> usize {
+    let number = number_at(numbers, 0);
+    match number {
+        0 => put_granted(text, at, kind, numbers),
+        15 => put_short(text, at, numbers),
+        _ => say(
+            text,
+            at,
+            wrapping_add_usize(forms::REFUSED, number as usize),
+            numbers,
+        ),
+    }
+}
+
+fn differs(found: Found, numbers: Numbers) -> bool {
+    let expected = found.expected;
+    0 < expected.count && !rehearse_text::same(expected, numbers)
+}
+
+fn put_answer(text: &mut Text, at: usize, found: Found, numbers: Numbers) -> usize {
+    let row = say(text, at, numbers.count, numbers);
+    let end = put_words(text, row, found.kind, numbers);
+    if differs(found, numbers) {
+        return say(text, end, forms::DIFFERS, numbers);
     }
     end
 }
 
-pub fn put_words(text: &mut [u8], at: usize, kind: usize, numbers: Numbers) -> usize {
-    if number_at(numbers, 0) == 0 {
-        return put_granted(text, at, kind, numbers);
+// ---- a line that is not understood
+
+// The first digits of the number as it was written, without zeros before it.
+fn put_large(text: &mut Text, at: usize, line: &[u8], from: usize) -> usize {
+    let start = past_all(line, past_spaces(line, from), b'0');
+    let end = rehearse_numbers::digits_from(line, start).end;
+    let most = wrapping_add_usize(start, 20);
+    if end <= most {
+        return put_part(text, at, line, start, end);
     }
-    put_refusal(text, at, numbers)
+    let cut = put_part(text, at, line, start, most);
+    say(text, cut, forms::CUT, none())
+}
+
+// A word, or either of two.
+fn put_pattern(text: &mut Text, at: usize, table: &[u8], place: usize) -> usize {
+    let end = rehearse_lines::past_mark(table, place);
+    let second = past_byte(table, place, b'|');
+    if end < second {
+        return put_part(text, at, table, place, end);
+    }
+    let bar = put_part(text, at, table, place, wrapping_sub_usize(second, 1));
+    let or = say(text, bar, forms::OR, none());
+    put_part(text, or, table, second, end)
+}
+
+// The last is for the patterns' end, where no line begins.
+fn wanted_of(mark: u8) -> usize {
+    match mark {
+        b',' => 1,
+        b':' => 2,
+        b'@' => 3,
+        b'=' => 4,
+        b' ' => 5,
+        _ => 0,
+    }
+}
+
+// What the pattern has at a place.
+fn put_wanted(text: &mut Text, at: usize, place: usize) -> usize {
+    let table: &[u8] = &rehearse_lines::PATTERNS;
+    let mark = byte_at(table, place);
+    if rehearse_text::is_letter(mark) {
+        return put_pattern(text, at, table, place);
+    }
+    say(
+        text,
+        at,
+        wrapping_add_usize(forms::WANTED, wanted_of(mark)),
+        none(),
+    )
+}
+
+fn put_unfit(text: &mut Text, at: usize, line: &[u8], found: Found) -> usize {
+    if found.state == rehearse_lines::UNOPENED {
+        return say(text, at, forms::UNOPENED, none());
+    }
+    if found.state == rehearse_lines::LARGE {
+        let told = say(text, at, forms::TOO_LARGE, none());
+        return put_large(text, told, line, found.at);
+    }
+    let told = say(text, at, forms::EXPECTED, none());
+    put_wanted(text, told, found.place)
+}
+
+// ---- every line
+
+fn put_line(text: &mut Text, line: &[u8], found: Found, numbers: Numbers) -> usize {
+    let state = found.state;
+    if state == rehearse_lines::PASSED_ON {
+        return put_part(text, 0, line, 0, line.len());
+    }
+    if state == rehearse_lines::LONG {
+        return say(text, 0, forms::TOO_LONG, numbers);
+    }
+    let end = put_shown(text, 0, line);
+    if state == rehearse_lines::FITS {
+        return put_answer(text, end, found, numbers);
+    }
+    put_unfit(text, end, line, found)
+}
+
+fn print_part(bytes: &[u8], end: usize) -> bool {
+    if bytes.len() < end {
+        return false;
+    }
+    io::write_all(libc::STDOUT_FILENO, &bytes[0..end])
+}
+
+// Writes the text up to a position.
+fn print(text: &Text, end: usize) -> bool {
+    print_part(text, end)
+}
+
+// Lines so far. `count` bytes of the next are there; `opened` says whether an open was called, `printed` whether all was printed.
+pub struct Run {
+    pub count: usize,
+    pub opened: bool,
+    pub printed: bool,
+    pub answered: u64,
+    pub differing: u64,
+    pub not_understood: u64,
+}
+
+pub fn begun() -> Run {
+    Run {
+        count: 0,
+        opened: false,
+        printed: true,
+        answered: 0,
+        differing: 0,
+        not_understood: 0,
+    }
+}
+
+// The lines counted, once one more is answered or not.
+fn counted(mut run: Run, state: u8, differs: bool) -> Run {
+    if state == rehearse_lines::PASSED_ON {
+        return run;
+    }
+    if state != rehearse_lines::FITS {
+        run.not_understood = wrapping_add_u64(run.not_understood, 1);
+        return run;
+    }
+    run.opened = true;
+    run.answered = wrapping_add_u64(run.answered, 1);
+    if differs {
+        run.differing = wrapping_add_u64(run.differing, 1);
+    }
+    run
+}
+
+// Prints a line with the numbers of its answer; none where it has no answer.
+pub fn print_line(run: Run, line: &[u8], found: Found, numbers: Numbers) -> Run {
+    let mut text = [0u8; rehearse_text::TEXT];
+    let end = put_line(&mut text, line, found, numbers);
+    let past = put_byte(&mut text, end, b'\n');
+    let mut next = counted(run, found.state, differs(found, numbers));
+    next.count = 0;
+    next.printed = run.printed && print(&text, past);
+    next
+}
+
+pub fn print_counts(run: Run) {
+    let mut text = [0u8; rehearse_text::TEXT];
+    let answered = and(and(none(), run.answered), run.differing);
+    let numbers = and(answered, run.not_understood);
+    let form = if run.differing == 1 {
+        forms::COUNTS_ONE_DIFFERS
+    } else {
+        forms::COUNTS
+    };
+    let end = say(&mut text, 0, form, numbers);
+    print(&text, end);
 }

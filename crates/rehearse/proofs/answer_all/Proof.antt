@@ -20,6 +20,7 @@ answer-all-spec =
     μ-loop
     (λ c κs. search needs)
     (λ c. search needs)
+    (λ c κs. search needs)
     (λ c. search needs)
     (λ c κs. search needs)
     (λ c κs. search needs)

@@ -28,6 +28,8 @@ call-spec =
     (tie.spec
     (λ c κs. search needs)
     returns
+    (λ c. search needs)
+    (λ c. search needs)
     (λ c κs. search needs)
     returns-2
     (λ c. search needs)

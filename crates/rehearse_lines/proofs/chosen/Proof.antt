@@ -6,10 +6,10 @@ use Rattle.rehearse_lines.proofs.chosen.Statement.{statement}
 use Rattle.rehearse_lines.proofs.chosen.Tie as tie
 
 abbrev Inv-loop : tie.InvT-loop
-Inv-loop table line place₀ kind₀ place kind = kind ≤ 11
+Inv-loop table line place₀ kind₀ place kind = kind ≤ 13
 
 abbrev μ-loop : tie.MeasureT-loop
-μ-loop table line place₀ kind₀ place kind = 11 - kind
+μ-loop table line place₀ kind₀ place kind = 13 - kind
 
 pub chosen-spec : {M : Type 1} → statement M
 chosen-spec =
@@ -25,6 +25,5 @@ chosen-spec =
     (λ c. search needs)
     (λ c. search needs)
     (λ c. search needs)
-    (λ c κs. search needs)
     (λ c κs. search needs)
     (λ c. search needs))

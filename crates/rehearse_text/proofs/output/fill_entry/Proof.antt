@@ -1,17 +1,15 @@
 -- `rehearse_text::output::fill_entry` is safe and ends.
 -- Assumes nothing.
 use borrow.Author.Needs.{needs}
-use Prim.Native.Nat.{_-_}
-use mathlib.Core.Path.{_≡_}
-use lib.ListN.{length}
+use Prim.Native.Nat.{_≤_, _-_}
 use Rattle.rehearse_text.proofs.output.fill_entry.Statement.{statement}
 use Rattle.rehearse_text.proofs.output.fill_entry.Tie as tie
 
 abbrev Inv-loop : tie.InvT-loop
-Inv-loop text₀ at table entry numbers first filled₀ from k₀ k-end text filled k = length text ≡ length text₀
+Inv-loop text₀ at table entry numbers end₀ k₀ k-end text end k = k₀ ≤ k
 
 abbrev μ-loop : tie.MeasureT-loop
-μ-loop text₀ at table entry numbers first filled₀ from k₀ k-end text filled k = k-end - k
+μ-loop text₀ at table entry numbers end₀ k₀ k-end text end k = k-end - k
 
 pub fill-entry-spec : {M : Type 1} → statement M
 fill-entry-spec =
@@ -23,9 +21,7 @@ fill-entry-spec =
     (λ c. search needs)
     (λ c κs. search needs)
     (λ c. search needs)
-    (λ c. search needs)
     (λ c κs. search needs)
-    (λ c. search needs)
     (λ c. search needs)
     (λ c. search needs)
     (λ c. search needs)

@@ -2,13 +2,11 @@
 -- Assumes nothing.
 use borrow.Author.Needs.{needs}
 use Prim.Native.Nat.{_≤_, _-_}
-use mathlib.Core.Path.{_≡_}
-use lib.ListN.{length}
 use Rattle.rehearse_text.proofs.output.put_part.Statement.{statement}
 use Rattle.rehearse_text.proofs.output.put_part.Tie as tie
 
 abbrev Inv-loop : tie.InvT-loop
-Inv-loop text₀ at bytes from to end₀ k₀ text end k = length text ≡ length text₀
+Inv-loop text₀ at bytes from to end₀ k₀ text end k = from ≤ k
 
 abbrev μ-loop : tie.MeasureT-loop
 μ-loop text₀ at bytes from to end₀ k₀ text end k = to - k
@@ -22,7 +20,6 @@ put-part-spec =
     (λ c. search needs)
     (λ c κs. search needs)
     (λ c κs. search needs)
-    (λ c. search needs)
     (λ c. search needs)
     (λ c. search needs)
     (λ c. search needs)

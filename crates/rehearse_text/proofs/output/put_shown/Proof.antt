@@ -2,13 +2,11 @@
 -- Assumes nothing.
 use borrow.Author.Needs.{needs}
 use Prim.Native.Nat.{_≤_, _-_}
-use mathlib.Core.Path.{_≡_}
-use lib.ListN.{length}
 use Rattle.rehearse_text.proofs.output.put_shown.Statement.{statement}
 use Rattle.rehearse_text.proofs.output.put_shown.Tie as tie
 
 abbrev Inv-loop : tie.InvT-loop
-Inv-loop text₀ at bytes end₀ k₀ k-end text end k = (k ≤ k-end) × (length text ≡ length text₀)
+Inv-loop text₀ at bytes end₀ k₀ k-end text end k = k ≤ k-end
 
 abbrev μ-loop : tie.MeasureT-loop
 μ-loop text₀ at bytes end₀ k₀ k-end text end k = k-end - k
@@ -23,7 +21,6 @@ put-shown-spec =
     (λ c κs. search needs)
     (λ c κs. search needs)
     (λ c κs. search needs)
-    (λ c. search needs)
     (λ c. search needs)
     (λ c. search needs)
     (λ c. search needs)

@@ -1,8 +1,8 @@
--- `rehearse_timed::nominate` meets its contract.
+-- `rehearse_calls::nominate` meets its contract.
 -- Assumes nothing.
 use borrow.Author.Needs.{needs}
-use Rattle.rehearse_timed.proofs.nominate.Statement.{statement}
-use Rattle.rehearse_timed.proofs.nominate.Tie as tie
+use Rattle.rehearse_calls.proofs.nominate.Statement.{statement}
+use Rattle.rehearse_calls.proofs.nominate.Tie as tie
 
 returns : tie.Need-returns
 returns c = rw (c .before .before .five .ensures) at (c .nominate .ensures)

@@ -1,9 +1,9 @@
--- `rehearse_lines::is_code` is safe and ends.
+-- `rehearse_lines::past_code` is safe and ends.
 -- Assumes nothing.
 use borrow.Author.Needs.{needs}
 use Prim.Native.Nat.{_≤_, _-_}
-use Rattle.rehearse_lines.proofs.is_code.Statement.{statement}
-use Rattle.rehearse_lines.proofs.is_code.Tie as tie
+use Rattle.rehearse_lines.proofs.past_code.Statement.{statement}
+use Rattle.rehearse_lines.proofs.past_code.Tie as tie
 
 abbrev Inv-loop : tie.InvT-loop
 Inv-loop line from k₀ k = k ≤ 16
@@ -11,8 +11,8 @@ Inv-loop line from k₀ k = k ≤ 16
 abbrev μ-loop : tie.MeasureT-loop
 μ-loop line from k₀ k = 16 - k
 
-pub is-code-spec : {M : Type 1} → statement M
-is-code-spec =
+pub past-code-spec : {M : Type 1} → statement M
+past-code-spec =
     tie.close
     (tie.spec
     Inv-loop
@@ -28,4 +28,5 @@ is-code-spec =
     (λ c κs. search needs)
     (λ c κs. search needs)
     (λ c κs. search needs)
+    (λ c. search needs)
     (λ c. search needs))

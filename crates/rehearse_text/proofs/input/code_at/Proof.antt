@@ -1,9 +1,9 @@
--- `rehearse_answers::code_at` is safe and ends.
+-- `rehearse_text::input::code_at` is safe and ends.
 -- Assumes nothing.
 use borrow.Author.Needs.{needs}
 use Prim.Native.Nat.{_≤_, _-_}
-use Rattle.rehearse_answers.proofs.code_at.Statement.{statement}
-use Rattle.rehearse_answers.proofs.code_at.Tie as tie
+use Rattle.rehearse_text.proofs.input.code_at.Statement.{statement}
+use Rattle.rehearse_text.proofs.input.code_at.Tie as tie
 
 abbrev Inv-loop : tie.InvT-loop
 Inv-loop line from code₀ k₀ code k = k ≤ 16

@@ -1,8 +1,8 @@
--- `rehearse_timed::bid` meets its contract.
+-- `rehearse_calls::bid` meets its contract.
 -- Assumes nothing.
 use borrow.Author.Needs.{needs}
-use Rattle.rehearse_timed.proofs.bid.Statement.{statement}
-use Rattle.rehearse_timed.proofs.bid.Tie as tie
+use Rattle.rehearse_calls.proofs.bid.Statement.{statement}
+use Rattle.rehearse_calls.proofs.bid.Tie as tie
 
 returns : tie.Need-returns
 returns c = rw (c .before .before .five .ensures) at (c .bid .ensures)
