@@ -36,7 +36,7 @@ fn answer(book: &mut Book, line: &[u8], run: Run) -> Run {
 
 // The first `count` bytes are the line; a line that is too long fills the room.
 fn finish(book: &mut Book, line: &[u8], count: usize, run: Run) -> Run {
-    let start = rehearse_lines::start_of(line, count);
+    let start = rehearse_text::start_of(line, count);
     if start <= count && count <= line.len() {
         return answer(book, &line[start..count], run);
     }

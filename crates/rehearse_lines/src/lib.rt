@@ -1,14 +1,15 @@
 // A line is matched, word by word, against the pattern of its kind, which its first word chooses.
 //
-// In a pattern a letter begins a word, and | stands between two words, of which a line has one. 1, 2 and 4 stand for a number of so many bytes,
-// ? for MW that may be left out, * for any count of directions, @ for a party code. A comma stands for itself, a colon for itself or for no MW at all.
-// = begins the numbers expected, + stands for these, and ; ends the pattern.
+// In a pattern a letter begins a word, and / stands for the word direction or profile. 1, 2 and 4 stand for a number of so many bytes, ? for MW that may be
+// left out, * for any count of directions, @ for a party code. A comma stands for itself, a colon for itself or for no MW at all. = begins the numbers
+// expected, + stands for these, and ; ends the pattern.
 use rehearse_numbers::Digits;
 use rehearse_numbers::digits_from;
 use rehearse_numbers::fits;
 use rehearse_text::Numbers;
 use rehearse_text::and;
 use rehearse_text::byte_at;
+use rehearse_text::entry_at;
 use rehearse_text::is_break;
 use rehearse_text::is_letter;
 use rehearse_text::none;
@@ -19,17 +20,17 @@ use rehearse_text::past_word;
 use std::num::wrapping_add_usize;
 use std::num::wrapping_sub_usize;
 
-// In the order of the kinds below. Where a line has the second of two words its kind is one more, and no pattern stands at that kind.
-pub const PATTERNS: [u8; 396] = *b"\
+// In the order of the kinds below. With the word profile for / the kind is one more, and no pattern stands there.
+pub const PATTERNS: [u8; 364] = *b"\
     open 1 hours, weekday 1 =+;\
     direction 1 to 1, model 1 =+;\
     profile of directions * =+;\
     party @, access 1 =+;\
-    offer at 4, direction|profile 1, hour 1: ? =+;;\
+    offer at 4, / 1, hour 1: ? =+;;\
     bid at 4, party 1, direction 1, session 1: ? ? ? ? ? =+;\
     nominate at 4, party 1, other 1, right 2, side 1: ? ? ? ? ? =+;\
     match at 4, direction 1, session 1 =+;\
-    left of direction|profile 1, hour 1 =+;;\
+    left of / 1, hour 1 =+;;\
     right 2 =+;\
     confirmed of right 2, out 1, in 1 =+;\
 ";
@@ -62,9 +63,6 @@ pub const RIGHT: usize = 11;
 pub const CONFIRMED: usize = 12;
 
 const KINDS: usize = 13;
-
-// The most bytes of a line, without its end.
-pub const LONGEST: usize = 200;
 
 // What is found of a line: the match is under way; the line fits; another word stands at `at` than `place` wants; the number at `at` is too large;
 // it fits, and no open was called; it is too long; it is empty or a comment, and passed on.
@@ -130,19 +128,15 @@ fn past_next(table: &[u8], place: usize, line: &[u8], at: usize) -> usize {
 
 // ---- what a mark stands for: its number, and the position past it, which is `at` where it doesn't stand there
 
-// 1 for the second of two words.
-fn next_word(table: &[u8], place: usize, line: &[u8], at: usize) -> Digits {
-    let end = past_next(table, place, line, at);
+// The word direction, or profile, whose number is 1; both are first words.
+fn direction_or_profile(table: &[u8], line: &[u8], at: usize) -> Digits {
+    let end = past_next(table, entry_at(table, DIRECTION), line, at);
     if end != at {
-        return Digits { value: 0, end };
-    }
-    let second = past_byte(table, place, b'|');
-    if past_mark(table, place) < second {
         return Digits { value: 0, end };
     }
     Digits {
         value: 1,
-        end: past_next(table, second, line, at),
+        end: past_next(table, entry_at(table, PROFILE), line, at),
     }
 }
 
@@ -205,29 +199,33 @@ fn past_sign(line: &[u8], at: usize, mark: u8) -> usize {
     at
 }
 
+// A mark that has no number.
+fn past_of(table: &[u8], place: usize, line: &[u8], at: usize, mark: u8) -> usize {
+    match mark {
+        b',' | b':' => past_sign(line, at, mark),
+        b'=' => past_equals(line, at),
+        _ => past_next(table, place, line, at),
+    }
+}
+
 fn next_of(table: &[u8], place: usize, line: &[u8], at: usize, mark: u8) -> Digits {
     match mark {
         b'1' | b'2' | b'4' | b'?' | b'*' | b'+' => next_number(line, at),
-        b',' | b':' => Digits {
-            value: 0,
-            end: past_sign(line, at, mark),
-        },
-        b'=' => Digits {
-            value: 0,
-            end: past_equals(line, at),
-        },
         b'@' => next_code(line, at),
-        _ => next_word(table, place, line, at),
+        b'/' => direction_or_profile(table, line, at),
+        _ => Digits {
+            value: 0,
+            end: past_of(table, place, line, at, mark),
+        },
     }
 }
 
 // ---- a mark is passed
 
-// The position past a mark: a word, two words with a bar between them, or a sign.
+// The position past a mark: a word or a sign.
 pub fn past_mark(table: &[u8], place: usize) -> usize {
     for at in wrapping_add_usize(place, 1)..table.len() {
-        let byte = byte_at(table, at);
-        if !is_letter(byte) && byte != b'|' {
+        if !is_letter(byte_at(table, at)) {
             return at;
         }
     }
@@ -274,21 +272,28 @@ fn is_large(value: u64, mark: u8) -> bool {
     }
 }
 
-// A direction's bit is added to the map.
+// The map of directions with one more.
 fn with_direction(given: Numbers, direction: u64) -> Numbers {
-    let map = number_at(given, 0);
-    if direction < 32 {
-        return and(none(), map | (1u64 << (direction as u32)));
-    }
-    given
+    and(
+        none(),
+        number_at(given, 0) | (1u64 << ((direction % 32) as u32)),
+    )
 }
 
-// With the number of a mark that is passed; of words it is added to the kind.
+// With the number of a mark; of words it is added to the kind.
 fn stored(mut found: Found, mark: u8, value: u64) -> Found {
     match mark {
         b'1' | b'2' | b'4' | b'?' => {
             let given = and(found.given, value);
             found.given = given;
+        }
+        b'*' => {
+            let given = with_direction(found.given, value);
+            found.given = given;
+        }
+        b'+' => {
+            let expected = and(found.expected, value);
+            found.expected = expected;
         }
         b'@' => {
             found.code = value as usize;
@@ -300,17 +305,13 @@ fn stored(mut found: Found, mark: u8, value: u64) -> Found {
     found
 }
 
-// A direction, or a number expected: the mark stays.
-fn repeated(mut found: Found, mark: u8, digits: Digits) -> Found {
-    found.at = digits.end;
-    if mark == b'*' {
-        let given = with_direction(found.given, digits.value);
-        found.given = given;
-        return found;
+// Past what a mark stands for; a direction or a number expected may follow another.
+fn passed(table: &[u8], mut found: Found, mark: u8, digits: Digits) -> Found {
+    if mark == b'*' || mark == b'+' {
+        found.at = digits.end;
+        return stored(found, mark, digits.value);
     }
-    let expected = and(found.expected, digits.value);
-    found.expected = expected;
-    found
+    stored(moved(table, found, digits.end), mark, digits.value)
 }
 
 // ---- the whole line
@@ -325,10 +326,7 @@ fn step(table: &[u8], line: &[u8], found: Found) -> Found {
     if is_large(digits.value, mark) {
         return with_state(found, LARGE);
     }
-    if mark == b'*' || mark == b'+' {
-        return repeated(found, mark, digits);
-    }
-    stored(moved(table, found, digits.end), mark, digits.value)
+    passed(table, found, mark, digits)
 }
 
 // More steps than a pattern's marks and a line's numbers take.
@@ -362,30 +360,12 @@ fn match_line(line: &[u8]) -> Found {
     walk(table, line, chosen(table, line))
 }
 
-// The byte order mark with which some editors begin a file of UTF-8.
-fn has_order_mark(line: &[u8]) -> bool {
-    byte_at(line, 0) == 0xEF && byte_at(line, 1) == 0xBB && byte_at(line, 2) == 0xBF
-}
-
-// Where a line of so many bytes begins: past such a mark.
-pub fn start_of(line: &[u8], count: usize) -> usize {
-    if 3 <= count && count <= LONGEST && has_order_mark(line) {
-        return 3;
-    }
-    0
-}
-
-fn is_passed_on(line: &[u8]) -> bool {
-    let first = past_spaces(line, 0);
-    byte_at(line, first) == b'#' || line.len() <= first
-}
-
 // What a line asks for, whether it was opened before or not.
 pub fn read(line: &[u8], opened: bool) -> Found {
-    if LONGEST < line.len() {
+    if rehearse_text::LONGEST < line.len() {
         return begun(LONG, KINDS, 0);
     }
-    if is_passed_on(line) {
+    if rehearse_text::is_passed_on(line) {
         return begun(PASSED_ON, KINDS, 0);
     }
     let found = match_line(line);

@@ -38,6 +38,9 @@ pub fn entry_at(table: &[u8], number: usize) -> usize {
 
 // ---- a line as it comes
 
+// The most bytes of a line, without its end.
+pub const LONGEST: usize = 200;
+
 // One more byte of a line that has `count`, and its count then; where there is no more room, one more than the room.
 pub fn keep(line: &mut [u8], count: usize, byte: u8) -> usize {
     if count < line.len() {
@@ -57,6 +60,25 @@ pub fn without_return(line: &[u8], count: usize) -> usize {
     }
 }
 
+// The byte order mark with which some editors begin a file of UTF-8.
+fn has_order_mark(line: &[u8]) -> bool {
+    byte_at(line, 0) == 0xEF && byte_at(line, 1) == 0xBB && byte_at(line, 2) == 0xBF
+}
+
+// Where a line of so many bytes begins: past such a mark.
+pub fn start_of(line: &[u8], count: usize) -> usize {
+    if 3 <= count && count <= LONGEST && has_order_mark(line) {
+        return 3;
+    }
+    0
+}
+
+// A comment or an empty line.
+pub fn is_passed_on(line: &[u8]) -> bool {
+    let first = past_spaces(line, 0);
+    byte_at(line, first) == b'#' || line.len() <= first
+}
+
 // ---- words
 
 pub fn is_letter(byte: u8) -> bool {
@@ -69,11 +91,11 @@ pub fn is_break(byte: u8) -> bool {
 }
 
 // No word of a table is longer.
-const LONGEST: usize = 16;
+const WORD: usize = 16;
 
 // The position past a word of a table, or `from` where another word stands there.
 pub fn past_word(table: &[u8], place: usize, line: &[u8], from: usize) -> usize {
-    for k in 0..LONGEST {
+    for k in 0..WORD {
         let at = std::num::wrapping_add_usize(from, k);
         let wanted = byte_at(table, std::num::wrapping_add_usize(place, k));
         let given = byte_at(line, at);

@@ -2,15 +2,19 @@
 mod input;
 mod output;
 
+pub use input::LONGEST;
 pub use input::byte_at;
 pub use input::code_at;
+pub use input::entry_at;
 pub use input::is_break;
 pub use input::is_letter;
+pub use input::is_passed_on;
 pub use input::keep;
 pub use input::past_all;
 pub use input::past_byte;
 pub use input::past_spaces;
 pub use input::past_word;
+pub use input::start_of;
 pub use input::without_return;
 pub use output::TEXT;
 pub use output::Text;

@@ -6,7 +6,7 @@ use rehearse_text::fill_entry;
 use rehearse_text::none;
 
 // First the numbers of an answer, by their count; then granted calls and reads, by the kind of the line.
-const FORMS: [u8; 1177] = *b"\
+const FORMS: [u8; 1193] = *b"\
     ;; -> A B  ; -> A B C  ;;; -> A B C D E F  ;;; -> A B C D E F G H I  ;\
     granted;granted: direction B;granted: profile B;granted: party B;granted: B MW left;granted: B MW left;granted: right B;\
     granted;granted: B rights;B MW left;B MW left;party B, direction C, session D, E F G H I MW;B C D E F MW confirmed;\
@@ -15,8 +15,8 @@ const FORMS: [u8; 1177] = *b"\
     granted;granted: above the right in hour A of the session;granted: above the right in hours A B of the session;\
     granted: above the right in hours A B C of the session;granted: above the right in hours A B C D of the session;\
     granted: above the right in hours A B C D E of the session;  <== differs; -> not understood: expected ; -> too large: ;\
-    ..; -> needs an open before it;-> too long: a line has at most 200 bytes; or ;\
-    a number;a comma;a colon;a code of 16 characters;the end of the line;\
+    ..; -> needs an open before it;-> too long: a line has at most 200 bytes;\
+    a number;a comma;a colon;a code of 16 characters;the end of the line;direction or profile;\
     open, direction, profile, party, offer, bid, nominate, match, left, right or confirmed;\
     A lines answered, B differ from what was expected, C not understood\n;\
     A lines answered, B differs from what was expected, C not understood\n;\
@@ -48,14 +48,11 @@ pub const UNOPENED: usize = 50;
 
 pub const TOO_LONG: usize = 51;
 
-pub const OR: usize = 52;
-
 // With the number of a mark, from 0.
-pub const WANTED: usize = 53;
+pub const WANTED: usize = 52;
 
+// One more where one line differs.
 pub const COUNTS: usize = 59;
-
-pub const COUNTS_ONE_DIFFERS: usize = 60;
 
 pub fn say(text: &mut Text, at: usize, entry: usize, numbers: Numbers) -> usize {
     fill_entry(text, at, &FORMS, entry, numbers)

@@ -11,66 +11,62 @@ use rehearse_text::byte_at;
 use rehearse_text::none;
 use rehearse_text::number_at;
 use rehearse_text::past_all;
-use rehearse_text::past_byte;
 use rehearse_text::past_spaces;
 use rehearse_text::put_byte;
 use rehearse_text::put_part;
 use rehearse_text::put_shown;
 use std::num::wrapping_add_u64;
 use std::num::wrapping_add_usize;
-use std::num::wrapping_sub_usize;
+use std::num::wrapping_sub_u64;
 
 // ---- a line that is answered
 
-// The direction is short, or a profile, whose number is one less.
-fn put_short(text: &mut Text, at: usize, mut numbers: Numbers) -> usize {
-    let capacity = number_at(numbers, 2);
-    if capacity == 0 {
-        return say(text, at, forms::SHORT, numbers);
+// The numbers that the words name. Of a shortage the profile is one less than its number; of a nomination they are the hours above the right.
+fn told(kind: usize, mut numbers: Numbers) -> Numbers {
+    let number = number_at(numbers, 0);
+    if number == 0 && kind == rehearse_lines::NOMINATE {
+        return hours_of(number_at(numbers, 1));
     }
-    numbers.values[2] = capacity - 1;
-    say(text, at, forms::SHORT_OF_PROFILE, numbers)
+    if number == 15 {
+        numbers.values[2] = wrapping_sub_u64(number_at(numbers, 2), 1);
+    }
+    numbers
 }
 
-fn put_granted(text: &mut Text, at: usize, kind: usize, numbers: Numbers) -> usize {
+fn granted(kind: usize, numbers: Numbers) -> usize {
     let detail = number_at(numbers, 1);
     if kind == rehearse_lines::NOMINATE {
-        let hours = hours_of(detail);
-        return say(
-            text,
-            at,
-            wrapping_add_usize(forms::ABOVE, hours.count),
-            hours,
-        );
+        return wrapping_add_usize(forms::ABOVE, hours_of(detail).count);
     }
     if kind == rehearse_lines::MATCH && detail == 1 {
-        return say(text, at, forms::ONE_RIGHT, numbers);
+        return forms::ONE_RIGHT;
     }
-    say(text, at, wrapping_add_usize(forms::GRANTED, kind), numbers)
+    wrapping_add_usize(forms::GRANTED, kind)
 }
 
-fn put_words(text: &mut Text, at: usize, kind: usize, numbers: Numbers) -> usize {
+// The form of the words.
+fn form_of(kind: usize, numbers: Numbers) -> usize {
     let number = number_at(numbers, 0);
-    match number {
-        0 => put_granted(text, at, kind, numbers),
-        15 => put_short(text, at, numbers),
-        _ => say(
-            text,
-            at,
-            wrapping_add_usize(forms::REFUSED, number as usize),
-            numbers,
-        ),
+    if number == 0 {
+        return granted(kind, numbers);
     }
+    if number == 15 && number_at(numbers, 2) != 0 {
+        return forms::SHORT_OF_PROFILE;
+    }
+    wrapping_add_usize(forms::REFUSED, number as usize)
 }
 
 fn differs(found: Found, numbers: Numbers) -> bool {
     let expected = found.expected;
-    0 < expected.count && !rehearse_text::same(expected, numbers)
+    found.state == rehearse_lines::FITS
+        && 0 < expected.count
+        && !rehearse_text::same(expected, numbers)
 }
 
 fn put_answer(text: &mut Text, at: usize, found: Found, numbers: Numbers) -> usize {
     let row = say(text, at, numbers.count, numbers);
-    let end = put_words(text, row, found.kind, numbers);
+    let kind = found.kind;
+    let end = say(text, row, form_of(kind, numbers), told(kind, numbers));
     if differs(found, numbers) {
         return say(text, end, forms::DIFFERS, numbers);
     }
@@ -91,18 +87,6 @@ fn put_large(text: &mut Text, at: usize, line: &[u8], from: usize) -> usize {
     say(text, cut, forms::CUT, none())
 }
 
-// A word, or either of two.
-fn put_pattern(text: &mut Text, at: usize, table: &[u8], place: usize) -> usize {
-    let end = rehearse_lines::past_mark(table, place);
-    let second = past_byte(table, place, b'|');
-    if end < second {
-        return put_part(text, at, table, place, end);
-    }
-    let bar = put_part(text, at, table, place, wrapping_sub_usize(second, 1));
-    let or = say(text, bar, forms::OR, none());
-    put_part(text, or, table, second, end)
-}
-
 // The last is for the patterns' end, where no line begins.
 fn wanted_of(mark: u8) -> usize {
     match mark {
@@ -110,7 +94,8 @@ fn wanted_of(mark: u8) -> usize {
         b':' => 2,
         b'@' => 3,
         b'=' => 4,
-        b' ' => 5,
+        b'/' => 5,
+        b' ' => 6,
         _ => 0,
     }
 }
@@ -120,7 +105,13 @@ fn put_wanted(text: &mut Text, at: usize, place: usize) -> usize {
     let table: &[u8] = &rehearse_lines::PATTERNS;
     let mark = byte_at(table, place);
     if rehearse_text::is_letter(mark) {
-        return put_pattern(text, at, table, place);
+        return put_part(
+            text,
+            at,
+            table,
+            place,
+            rehearse_lines::past_mark(table, place),
+        );
     }
     say(
         text,
@@ -194,18 +185,15 @@ pub fn begun() -> Run {
 
 // The lines counted, once one more is answered or not.
 fn counted(mut run: Run, state: u8, differs: bool) -> Run {
-    if state == rehearse_lines::PASSED_ON {
-        return run;
-    }
-    if state != rehearse_lines::FITS {
-        run.not_understood = wrapping_add_u64(run.not_understood, 1);
-        return run;
-    }
-    run.opened = true;
-    run.answered = wrapping_add_u64(run.answered, 1);
-    if differs {
-        run.differing = wrapping_add_u64(run.differing, 1);
-    }
+    let is_answered = state == rehearse_lines::FITS;
+    let is_passed_on = state == rehearse_lines::PASSED_ON;
+    run.opened = run.opened || is_answered;
+    run.answered = wrapping_add_u64(run.answered, is_answered as u64);
+    run.differing = wrapping_add_u64(run.differing, differs as u64);
+    run.not_understood = wrapping_add_u64(
+        run.not_understood,
+        !(is_answered || is_passed_on) as u64,
+    );
     run
 }
 
@@ -224,11 +212,7 @@ pub fn print_counts(run: Run) {
     let mut text = [0u8; rehearse_text::TEXT];
     let answered = and(and(none(), run.answered), run.differing);
     let numbers = and(answered, run.not_understood);
-    let form = if run.differing == 1 {
-        forms::COUNTS_ONE_DIFFERS
-    } else {
-        forms::COUNTS
-    };
+    let form = wrapping_add_usize(forms::COUNTS, (run.differing == 1) as usize);
     let end = say(&mut text, 0, form, numbers);
     print(&text, end);
 }
