@@ -12,13 +12,14 @@ use rehearse_text::byte_at;
 use rehearse_text::entry_at;
 use rehearse_text::is_break;
 use rehearse_text::is_letter;
+use rehearse_text::may_begin;
 use rehearse_text::none;
 use rehearse_text::number_at;
 use rehearse_text::past_byte;
+use rehearse_text::past_code;
+use rehearse_text::past_next;
 use rehearse_text::past_spaces;
-use rehearse_text::past_word;
 use std::num::wrapping_add_usize;
-use std::num::wrapping_sub_usize;
 
 // In the order of the kinds below. With the word profile for / the kind is one more, and no pattern stands there.
 pub const PATTERNS: [u8; 364] = *b"\
@@ -109,23 +110,6 @@ fn with_state(mut found: Found, state: u8) -> Found {
     found
 }
 
-// ---- words
-
-// A word begins after a space, a comma or a colon, and at the line's beginning.
-fn may_begin(line: &[u8], at: usize, from: usize) -> bool {
-    from != at || is_break(byte_at(line, wrapping_sub_usize(at, 1)))
-}
-
-// The position past the next word, where it is the wanted one, or else `at`.
-fn past_next(table: &[u8], place: usize, line: &[u8], at: usize) -> usize {
-    let from = past_spaces(line, at);
-    if !may_begin(line, at, from) {
-        return at;
-    }
-    let end = past_word(table, place, line, from);
-    if end == from { at } else { end }
-}
-
 // ---- what a mark stands for: its number, and the position past it, which is `at` where it doesn't stand there
 
 // The word direction, or profile, whose number is 1; both are first words.
@@ -147,25 +131,6 @@ fn next_number(line: &[u8], at: usize) -> Digits {
         return digits;
     }
     Digits { value: 0, end: at }
-}
-
-fn ends_code(byte: u8) -> bool {
-    byte == b' ' || byte == b','
-}
-
-// The position past sixteen bytes, where they and no more stand here, or else `from`.
-fn past_code(line: &[u8], from: usize) -> usize {
-    for k in 0..16 {
-        if ends_code(byte_at(line, wrapping_add_usize(from, k))) {
-            return from;
-        }
-    }
-    let end = wrapping_add_usize(from, 16);
-    if ends_code(byte_at(line, end)) {
-        end
-    } else {
-        from
-    }
 }
 
 // A code's number is where it begins.
@@ -191,20 +156,18 @@ fn past_equals(line: &[u8], at: usize) -> usize {
     at
 }
 
-// A comma or a colon follows directly.
-fn past_sign(line: &[u8], at: usize, mark: u8) -> usize {
-    if byte_at(line, at) == mark {
-        return wrapping_add_usize(at, 1);
-    }
-    at
-}
-
-// A mark that has no number.
+// A mark that has no number. A comma or a colon follows directly.
 fn past_of(table: &[u8], place: usize, line: &[u8], at: usize, mark: u8) -> usize {
-    match mark {
-        b',' | b':' => past_sign(line, at, mark),
-        b'=' => past_equals(line, at),
-        _ => past_next(table, place, line, at),
+    if mark == b'=' {
+        return past_equals(line, at);
+    }
+    if is_letter(mark) {
+        return past_next(table, place, line, at);
+    }
+    if byte_at(line, at) == mark {
+        wrapping_add_usize(at, 1)
+    } else {
+        at
     }
 }
 

@@ -1,4 +1,7 @@
 // Words at a position of a line, and entries of a table. Past its end a line goes on with spaces.
+use std::num::wrapping_add_usize;
+use std::num::wrapping_sub_usize;
+
 pub fn byte_at(line: &[u8], at: usize) -> u8 {
     if at < line.len() { line[at] } else { b' ' }
 }
@@ -21,7 +24,7 @@ pub fn past_spaces(line: &[u8], from: usize) -> usize {
 pub fn past_byte(table: &[u8], from: usize, byte: u8) -> usize {
     for at in from..table.len() {
         if byte_at(table, at) == byte {
-            return std::num::wrapping_add_usize(at, 1);
+            return wrapping_add_usize(at, 1);
         }
     }
     table.len()
@@ -47,12 +50,12 @@ pub fn keep(line: &mut [u8], count: usize, byte: u8) -> usize {
         line[count] = byte;
         return count + 1;
     }
-    std::num::wrapping_add_usize(line.len(), 1)
+    wrapping_add_usize(line.len(), 1)
 }
 
 // CR before LF belongs to the line's end.
 pub fn without_return(line: &[u8], count: usize) -> usize {
-    let last = std::num::wrapping_sub_usize(count, 1);
+    let last = wrapping_sub_usize(count, 1);
     if byte_at(line, last) == b'\r' {
         last
     } else {
@@ -94,10 +97,10 @@ pub fn is_break(byte: u8) -> bool {
 const WORD: usize = 16;
 
 // The position past a word of a table, or `from` where another word stands there.
-pub fn past_word(table: &[u8], place: usize, line: &[u8], from: usize) -> usize {
+fn past_word(table: &[u8], place: usize, line: &[u8], from: usize) -> usize {
     for k in 0..WORD {
-        let at = std::num::wrapping_add_usize(from, k);
-        let wanted = byte_at(table, std::num::wrapping_add_usize(place, k));
+        let at = wrapping_add_usize(from, k);
+        let wanted = byte_at(table, wrapping_add_usize(place, k));
         let given = byte_at(line, at);
         if !is_letter(wanted) {
             return if is_break(given) { at } else { from };
@@ -109,11 +112,47 @@ pub fn past_word(table: &[u8], place: usize, line: &[u8], from: usize) -> usize 
     from
 }
 
+// A word begins after a space, a comma or a colon, and at the line's beginning.
+pub fn may_begin(line: &[u8], at: usize, from: usize) -> bool {
+    from != at || is_break(byte_at(line, wrapping_sub_usize(at, 1)))
+}
+
+// The position past the next word, where it is the wanted one, or else `at`.
+pub fn past_next(table: &[u8], place: usize, line: &[u8], at: usize) -> usize {
+    let from = past_spaces(line, at);
+    if !may_begin(line, at, from) {
+        return at;
+    }
+    let end = past_word(table, place, line, from);
+    if end == from { at } else { end }
+}
+
+// ---- party codes
+
+fn ends_code(byte: u8) -> bool {
+    byte == b' ' || byte == b','
+}
+
+// The position past sixteen bytes, where they and no more stand here, or else `from`.
+pub fn past_code(line: &[u8], from: usize) -> usize {
+    for k in 0..16 {
+        if ends_code(byte_at(line, wrapping_add_usize(from, k))) {
+            return from;
+        }
+    }
+    let end = wrapping_add_usize(from, 16);
+    if ends_code(byte_at(line, end)) {
+        end
+    } else {
+        from
+    }
+}
+
 // The sixteen bytes of a party code.
 pub fn code_at(line: &[u8], from: usize) -> [u8; 16] {
     let mut code = [0u8; 16];
     for k in 0..16 {
-        code[k] = byte_at(line, std::num::wrapping_add_usize(from, k));
+        code[k] = byte_at(line, wrapping_add_usize(from, k));
     }
     code
 }

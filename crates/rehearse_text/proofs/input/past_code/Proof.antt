@@ -1,9 +1,9 @@
--- `rehearse_lines::past_code` is safe and ends.
+-- `rehearse_text::input::past_code` is safe and ends.
 -- Assumes nothing.
 use borrow.Author.Needs.{needs}
 use Prim.Native.Nat.{_≤_, _-_}
-use Rattle.rehearse_lines.proofs.past_code.Statement.{statement}
-use Rattle.rehearse_lines.proofs.past_code.Tie as tie
+use Rattle.rehearse_text.proofs.input.past_code.Statement.{statement}
+use Rattle.rehearse_text.proofs.input.past_code.Tie as tie
 
 abbrev Inv-loop : tie.InvT-loop
 Inv-loop line from k₀ k = k ≤ 16
