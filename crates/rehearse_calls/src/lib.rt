@@ -2,17 +2,44 @@
 ghost use mathlib.Core.Path.{_≡_};
 ghost use Prim.Native.Nat.{_≤_};
 ghost use Rattle.answers.specs.Promises.{Opens, Answers};
-ghost use Rattle.rehearse_numbers.specs.Fields.{byteAt};
+ghost use Rattle.rehearse_numbers.specs.Fields.{byteAt, twoAt, fourAt};
 ghost use Rattle.rehearse_calls.specs.Made.{fiveFrom, directionOf, offerOf, profileOfferOf, bidOf, nominateOf, matchOf, timedCall, lineCall};
 use cells::Book;
 use rules::Answer;
 use rules::Hour;
 use rules::Session;
 
+// ---- a number of the line, in a field of one, two or four bytes
+
+fn byte(given: [u64; 10], place: usize) -> u8
+    requires { ⌜ place ≤ 9 ⌝ }
+    ensures { λ r. ⌜ r ≡ byteAt given place ⌝ }
+{
+    (given[place] % 256) as u8
+}
+
+fn two(given: [u64; 10], place: usize) -> u16
+    requires { ⌜ place ≤ 9 ⌝ }
+    ensures { λ r. ⌜ r ≡ twoAt given place ⌝ }
+{
+    (given[place] % 65536) as u16
+}
+
+fn four(given: [u64; 10], place: usize) -> u32
+    requires { ⌜ place ≤ 9 ⌝ }
+    ensures { λ r. ⌜ r ≡ fourAt given place ⌝ }
+{
+    (given[place] % 4294967296) as u32
+}
+
+// ---- opening
+
 pub fn open(book: &mut Book, given: [u64; 10]) -> Answer
     ensures { λ r. ⌜ Opens (byteAt given 0) (byteAt given 1) r (now (book .exit)) ⌝ }
 {
-    daybook::open_day(book, (given[0] % 256) as u8, (given[1] % 256) as u8)
+    let hours = byte(given, 0);
+    let weekday = byte(given, 1);
+    daybook::open_day(book, hours, weekday)
 }
 
 // ---- calls with a time
@@ -20,20 +47,20 @@ pub fn open(book: &mut Book, given: [u64; 10]) -> Answer
 fn offer(book: &mut Book, given: [u64; 10]) -> Answer
     ensures { λ r. ⌜ Answers (now (book .entry)) (offerOf given) r (now (book .exit)) ⌝ }
 {
-    let time = (given[0] % 4294967296) as u32;
-    let direction = (given[1] % 256) as u8;
-    let hour = Hour((given[2] % 256) as u8);
-    let mw = (given[3] % 65536) as u16;
+    let time = four(given, 0);
+    let direction = byte(given, 1);
+    let hour = Hour(byte(given, 2));
+    let mw = two(given, 3);
     daybook::offer_direction(book, time, direction, hour, mw)
 }
 
 fn offer_of_profile(book: &mut Book, given: [u64; 10]) -> Answer
     ensures { λ r. ⌜ Answers (now (book .entry)) (profileOfferOf given) r (now (book .exit)) ⌝ }
 {
-    let time = (given[0] % 4294967296) as u32;
-    let profile = (given[1] % 256) as u8;
-    let hour = Hour((given[2] % 256) as u8);
-    let mw = (given[3] % 65536) as u16;
+    let time = four(given, 0);
+    let profile = byte(given, 1);
+    let hour = Hour(byte(given, 2));
+    let mw = two(given, 3);
     daybook::offer_profile(book, time, profile, hour, mw)
 }
 
@@ -54,10 +81,10 @@ fn five(given: [u64; 10], from: usize) -> [u16; 5]
 fn bid(book: &mut Book, given: [u64; 10]) -> Answer
     ensures { λ r. ⌜ Answers (now (book .entry)) (bidOf given) r (now (book .exit)) ⌝ }
 {
-    let time = (given[0] % 4294967296) as u32;
-    let party = (given[1] % 256) as u8;
-    let direction = (given[2] % 256) as u8;
-    let session = Session((given[3] % 256) as u8);
+    let time = four(given, 0);
+    let party = byte(given, 1);
+    let direction = byte(given, 2);
+    let session = Session(byte(given, 3));
     let mw = five(given, 4);
     daybook::bid(book, time, party, direction, session, mw)
 }
@@ -65,11 +92,11 @@ fn bid(book: &mut Book, given: [u64; 10]) -> Answer
 fn nominate(book: &mut Book, given: [u64; 10]) -> Answer
     ensures { λ r. ⌜ Answers (now (book .entry)) (nominateOf given) r (now (book .exit)) ⌝ }
 {
-    let time = (given[0] % 4294967296) as u32;
-    let sender = (given[1] % 256) as u8;
-    let other = (given[2] % 256) as u8;
-    let right = (given[3] % 65536) as u16;
-    let side = (given[4] % 256) as u8;
+    let time = four(given, 0);
+    let sender = byte(given, 1);
+    let other = byte(given, 2);
+    let right = two(given, 3);
+    let side = byte(given, 4);
     let mw = five(given, 5);
     daybook::nominate(book, time, sender, other, right, side, mw)
 }
@@ -77,9 +104,9 @@ fn nominate(book: &mut Book, given: [u64; 10]) -> Answer
 fn match_session(book: &mut Book, given: [u64; 10]) -> Answer
     ensures { λ r. ⌜ Answers (now (book .entry)) (matchOf given) r (now (book .exit)) ⌝ }
 {
-    let time = (given[0] % 4294967296) as u32;
-    let direction = (given[1] % 256) as u8;
-    let session = Session((given[2] % 256) as u8);
+    let time = four(given, 0);
+    let direction = byte(given, 1);
+    let session = Session(byte(given, 2));
     daybook::match_session(book, time, direction, session)
 }
 
@@ -107,9 +134,9 @@ fn timed_call(book: &mut Book, kind: usize, given: [u64; 10]) -> Answer
 fn add_direction(book: &mut Book, given: [u64; 10]) -> Answer
     ensures { λ r. ⌜ Answers (now (book .entry)) (directionOf given) r (now (book .exit)) ⌝ }
 {
-    let out = (given[0] % 256) as u8;
-    let into = (given[1] % 256) as u8;
-    let model = (given[2] % 256) as u8;
+    let out = byte(given, 0);
+    let into = byte(given, 1);
+    let model = byte(given, 2);
     daybook::add_direction(book, out, into, model)
 }
 
@@ -121,10 +148,12 @@ pub fn call(book: &mut Book, kind: usize, given: [u64; 10], code: [u8; 16]) -> A
         return add_direction(book, given);
     }
     if kind == rehearse_lines::PROFILE {
-        return daybook::add_profile(book, (given[0] % 4294967296) as u32);
+        let map = four(given, 0);
+        return daybook::add_profile(book, map);
     }
     if kind == rehearse_lines::PARTY {
-        return daybook::add_party(book, code, (given[0] % 256) as u8);
+        let access = byte(given, 0);
+        return daybook::add_party(book, code, access);
     }
     timed_call(book, kind, given)
 }

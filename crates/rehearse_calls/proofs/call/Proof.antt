@@ -12,11 +12,11 @@ returns c = simp (eq-eqb _ _ (c .before .before .if1 .taken)) (c .add-direction 
 
 returns-2 : tie.Need-returns-2
 unfolding lineCall
-returns-2 c = simp (ne-eqb _ _ (c .before .before .before .if1 .left), eq-eqb _ _ (c .before .before .if2 .taken)) (c .add-profile .ensures)
+returns-2 c = simp (ne-eqb _ _ (c .before .before .before .before .if1 .left), eq-eqb _ _ (c .before .before .before .if2 .taken)) (rw (c .before .before .four .ensures) at (c .add-profile .ensures))
 
 returns-3 : tie.Need-returns-3
 unfolding lineCall
-returns-3 c = simp (ne-eqb _ _ (c .before .before .before .before .if1 .left), ne-eqb _ _ (c .before .before .before .if2 .left), eq-eqb _ _ (c .before .before .if3 .taken)) (c .add-party .ensures)
+returns-3 c = simp (ne-eqb _ _ (c .before .before .before .before .before .if1 .left), ne-eqb _ _ (c .before .before .before .before .if2 .left), eq-eqb _ _ (c .before .before .before .if3 .taken)) (rw (c .before .before .byte .ensures) at (c .add-party .ensures))
 
 returns-4 : tie.Need-returns-4
 unfolding lineCall
@@ -28,12 +28,10 @@ call-spec =
     (tie.spec
     (λ c κs. search needs)
     returns
-    (λ c. search needs)
-    (λ c. search needs)
+    (λ c κs. search needs)
     (λ c κs. search needs)
     returns-2
-    (λ c. search needs)
-    (λ c. search needs)
+    (λ c κs. search needs)
     (λ c κs. search needs)
     returns-3
     (λ c κs. search needs)
