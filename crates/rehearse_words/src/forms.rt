@@ -5,29 +5,34 @@ use rehearse_text::and;
 use rehearse_text::fill_entry;
 use rehearse_text::none;
 
-// First the numbers of an answer, by their count; then granted calls and reads, by the kind of the line.
+// In the order of the numbers below; first the numbers of an answer, by their count.
 const FORMS: [u8; 1193] = *b"\
     ;; -> A B  ; -> A B C  ;;; -> A B C D E F  ;;; -> A B C D E F G H I  ;\
-    granted;granted: direction B;granted: profile B;granted: party B;granted: B MW left;granted: B MW left;granted: right B;\
-    granted;granted: B rights;B MW left;B MW left;party B, direction C, session D, E F G H I MW;B C D E F MW confirmed;\
+    granted;granted: direction B;granted: profile B;granted: party B;\
+    granted: B MW left;granted: B MW left;granted: right B;granted;granted: B rights;\
+    B MW left;B MW left;party B, direction C, session D, E F G H I MW;B C D E F MW confirmed;\
     record;day;field;set-up shut;clock;unknown;taken;gate;hours;access;owner;cycle;full;below;\
-    short: hour B, direction;short: hour B, profile C;granted: B right;\
-    granted;granted: above the right in hour A of the session;granted: above the right in hours A B of the session;\
-    granted: above the right in hours A B C of the session;granted: above the right in hours A B C D of the session;\
+    short: hour B, direction;short: hour B, profile C;\
+    granted: B right;\
+    granted;\
+    granted: above the right in hour A of the session;\
+    granted: above the right in hours A B of the session;\
+    granted: above the right in hours A B C of the session;\
+    granted: above the right in hours A B C D of the session;\
     granted: above the right in hours A B C D E of the session;  <== differs; -> not understood: expected ; -> too large: ;\
-    ..; -> needs an open before it;-> too long: a line has at most 200 bytes;\
+    ..; -> needs an open before it;\
+    -> too long: a line has at most 200 bytes;\
     a number;a comma;a colon;a code of 16 characters;the end of the line;direction or profile;\
     open, direction, profile, party, offer, bid, nominate, match, left, right or confirmed;\
     A lines answered, B differ from what was expected, C not understood\n;\
     A lines answered, B differs from what was expected, C not understood\n;\
 ";
 
+// With the kind of the line.
 pub const GRANTED: usize = 10;
 
 // With the number of a refusal, from 1.
 pub const REFUSED: usize = 22;
-
-pub const SHORT: usize = 37;
 
 pub const SHORT_OF_PROFILE: usize = 38;
 

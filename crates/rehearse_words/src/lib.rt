@@ -21,13 +21,16 @@ use std::num::wrapping_sub_u64;
 
 // ---- a line that is answered
 
+// The number of this refusal.
+const SHORT: u64 = 15;
+
 // The numbers that the words name. Of a shortage the profile is one less than its number; of a nomination they are the hours above the right.
 fn told(kind: usize, mut numbers: Numbers) -> Numbers {
     let number = number_at(numbers, 0);
     if number == 0 && kind == rehearse_lines::NOMINATE {
         return hours_of(number_at(numbers, 1));
     }
-    if number == 15 {
+    if number == SHORT {
         numbers.values[2] = wrapping_sub_u64(number_at(numbers, 2), 1);
     }
     numbers
@@ -50,7 +53,7 @@ fn form_of(kind: usize, numbers: Numbers) -> usize {
     if number == 0 {
         return granted(kind, numbers);
     }
-    if number == 15 && number_at(numbers, 2) != 0 {
+    if number == SHORT && number_at(numbers, 2) != 0 {
         return forms::SHORT_OF_PROFILE;
     }
     wrapping_add_usize(forms::REFUSED, number as usize)
