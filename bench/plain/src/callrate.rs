@@ -1,10 +1,13 @@
-//! The benchmark `callrate`: each load fills a book, makes one kind of call many times, and prints the sum of the answers.
+//! The benchmark `callrate`: each load fills a book, makes many calls, and prints the sum of the answers.
 
 use crate::answer::Answer;
+use crate::bids::mixed_bid;
 use crate::book::Book;
 use crate::codes::code_of;
+use std::ops::RangeInclusive;
 
 /// How many calls a load makes.
+const MIXED_BIDS: u32 = 100_000;
 const STANDING_BIDS: u32 = 130_000;
 const REFUSED_BIDS: u32 = 400_000;
 const NOMINATIONS: u32 = 100_000;
@@ -12,7 +15,8 @@ const CONFIRMED_READS: u32 = 100_000;
 const SHORT_READS: u32 = 20_000_000;
 
 /// The loads by name, in the order in which all of them are run.
-pub const LOADS: [(&str, fn() -> Sum); 8] = [
+pub const LOADS: [(&str, fn() -> Sum); 9] = [
+    ("bids", bids),
     ("standing", standing),
     ("full", full),
     ("nominate-few", nominate_few),
@@ -44,34 +48,51 @@ impl Sum {
     }
 }
 
+/// How many calls had each answer, by its number.
+#[derive(Default)]
+struct Counts([u32; 16]);
+
+impl Counts {
+    fn add(&mut self, answer: Answer) {
+        self.0[usize::from(answer.numbers().0)] += 1;
+    }
+}
+
 // ---- books
 
-/// Four-hour directions, profiles of two directions each, 64 parties with access everywhere, and 9,999 MW in each hour of session 6.
-fn set_up() -> Book {
-    let (mut book, _) = Book::open(24, 1);
-    for k in 0..49 {
-        book.add_direction(k / 7, k % 7, 4);
+/// Every table of the set-up full, and 9,999 MW in some hours. The first twelve directions have the model, the others are four-hour ones.
+fn set_up(model: u8, hours: RangeInclusive<u8>, counts: &mut Counts) -> Book {
+    let (mut book, answer) = Book::open(24, 1);
+    counts.add(answer);
+    for k in 0..35 {
+        let model = if k < 14 { model } else { 4 };
+        counts.add(book.add_direction(k / 7, k % 7, model));
     }
     for p in 0..8 {
-        book.add_profile(3 << p);
+        counts.add(book.add_profile(0x3003 << p));
     }
     for number in 0..100 {
-        book.add_party(code_of(number), 127);
+        counts.add(book.add_party(code_of(number), 127));
     }
-    for hour in 21..=24 {
+    for hour in hours {
         for direction in 0..24 {
-            book.offer_direction(1000, direction, hour, 9999);
+            counts.add(book.offer_direction(1000, direction, hour, 9999));
         }
         for profile in 0..8 {
-            book.offer_profile(1000, profile, hour, 9999);
+            counts.add(book.offer_profile(1000, profile, hour, 9999));
         }
     }
     book
 }
 
+/// Four-hour directions, and capacity in the last session.
+fn four_hour_book() -> Book {
+    set_up(4, 21..=24, &mut Counts::default())
+}
+
 /// Eight rights for each of the 64 parties: right r is party r / 8's on direction r % 8.
 fn many_rights() -> Book {
-    let mut book = set_up();
+    let mut book = four_hour_book();
     for r in 0..512u32 {
         book.bid(2300, (r / 8) as u8, (r % 8) as u8, 6, [10, 10, 10, 10, 0]);
     }
@@ -80,7 +101,7 @@ fn many_rights() -> Book {
 
 /// Five rights, all party 63's: right r is on direction r.
 fn few_rights() -> Book {
-    let mut book = set_up();
+    let mut book = four_hour_book();
     for r in 0..5 {
         book.bid(2300, 63, r, 6, [500, 500, 500, 500, 0]);
     }
@@ -145,6 +166,25 @@ fn match_all(book: &mut Book) {
 }
 
 // ---- loads
+
+/// Bids of all kinds, granted and refused, in six windows. Prints how many had each answer.
+fn bids() -> Sum {
+    let mut before = Counts::default();
+    let mut book = set_up(1, 1..=24, &mut before);
+    println!("{} calls of set-up and offers granted", before.0[0]);
+    let mut counts = Counts::default();
+    let mut sum = Sum::default();
+    for i in 0..MIXED_BIDS {
+        let bid = mixed_bid(i);
+        let answer = book.bid(bid.time, bid.party, bid.direction, bid.session, bid.mw);
+        counts.add(answer);
+        sum.answer(answer);
+    }
+    for (number, count) in counts.0.iter().enumerate().filter(|(_, &count)| count > 0) {
+        println!("{count} bids with answer {number}");
+    }
+    sum
+}
 
 /// Bids for 1 MW in one hour that add to one of the last 64 of 512 rights.
 fn standing() -> Sum {

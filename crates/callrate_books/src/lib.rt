@@ -1,163 +1,146 @@
-// The books that the loads of `callrate` meet, on a Monday. All is in the four-hour session 6, the hours 21 to 24.
+// The books that the loads of `callrate` meet, on a Monday, and the calls that change them.
+use callrate_choices::Bid;
+use callrate_choices::Bids;
 use cells::Book;
 use rules::Answer;
 use rules::Hour;
+use rules::ReplyNumbers;
 use rules::Session;
+use std::num::wrapping_add_u32;
 
-// How 512 pairs are spread over rights.
-pub enum Spread {
-    Few,
-    Many,
+// How many calls had each answer, by its number; in the last place the sum of all their numbers and details, modulo 2^32.
+pub type Tally = [u32; 17];
+
+// ---- answers
+
+// The number and both details.
+fn sum_of_numbers(reply: ReplyNumbers) -> u32 {
+    let details = wrapping_add_u32(reply.first, reply.second);
+    wrapping_add_u32(reply.number as u32, details)
 }
 
-// A pair by what names it.
-pub struct Name {
-    pub right: u16,
-    pub out: u8,
-    pub into: u8,
+pub fn sum_of(answer: Answer) -> u32 {
+    sum_of_numbers(daybook::numbers(answer))
+}
+
+fn count(tally: &mut Tally, answer: Answer) {
+    let reply = daybook::numbers(answer);
+    let number = (reply.number % 16) as usize;
+    tally[number] = wrapping_add_u32(tally[number], 1);
+    tally[16] = wrapping_add_u32(tally[16], sum_of_numbers(reply));
 }
 
 // ---- set-up
 
-// From each operator to each other one, until there are 24.
-fn add_directions(book: &mut Book) {
-    for k in 0..49u8 {
-        daybook::add_direction(book, k / 7, k % 7, 4);
+// Directions from each operator to each other one, until there are 24: the first twelve with the model, the others four-hour.
+// Profile p holds the directions p, p + 1, p + 12 and p + 13. Parties have access to all seven operators, until there are 64.
+fn add(book: &mut Book, k: u8, model: u8) -> Answer {
+    match k {
+        0..=13 => daybook::add_direction(book, k / 7, k % 7, model),
+        14..=34 => daybook::add_direction(book, k / 7, k % 7, 4),
+        35..=42 => daybook::add_profile(book, 0x3003 << (k - 35)),
+        _ => daybook::add_party(book, cases_codes::code_of(k - 43), 127),
     }
 }
 
-// Profile p holds the directions p and p + 1.
-fn add_profiles(book: &mut Book) {
-    for p in 0..8u32 {
-        daybook::add_profile(book, 3 << p);
+// 9,999 MW in an hour, from the last one down. Rows 0 to 23 are the directions, 24 to 31 the profiles.
+fn offer(book: &mut Book, k: u32) -> Answer {
+    let row = (k % 32) as u8;
+    let hour = Hour((24 - k / 32 % 24) as u8);
+    if row < 24 {
+        return daybook::offer_direction(book, 1000, row, hour, 9999);
+    }
+    daybook::offer_profile(book, 1000, row - 24, hour, 9999)
+}
+
+fn make_offers(book: &mut Book, tally: &mut Tally, calls: u32) {
+    for k in 0..calls {
+        count(tally, offer(book, k));
     }
 }
 
-// Each with access to all seven operators, until there are 64.
-fn add_parties(book: &mut Book) {
-    for number in 0..100u8 {
-        daybook::add_party(book, cases_codes::code_of(number), 127);
+// A full set-up, and 9,999 MW of each direction and each profile in the last hours of the day.
+fn set_up(book: &mut Book, tally: &mut Tally, model: u8, hours: u8) {
+    count(tally, daybook::open_day(book, 24, 1));
+    for k in 0..143u8 {
+        count(tally, add(book, k, model));
+    }
+    make_offers(book, tally, 32 * hours as u32);
+}
+
+// ---- bids, nominations and matching
+
+fn bid(book: &mut Book, chosen: Bid) -> Answer {
+    let mw = chosen.mw;
+    daybook::bid(
+        book,
+        chosen.time,
+        chosen.party,
+        chosen.direction,
+        Session(chosen.session),
+        mw,
+    )
+}
+
+// The sum of the answers.
+pub fn make_bids(book: &mut Book, tally: &mut Tally, bids: Bids, calls: u32) -> u32 {
+    for i in 0..calls {
+        count(tally, bid(book, callrate_choices::bid_of(bids, i)));
+    }
+    tally[16]
+}
+
+fn fill_rights(book: &mut Book, rights: u32) {
+    for r in 0..rights {
+        bid(book, callrate_choices::right_bid(rights, r));
     }
 }
 
-fn offer_directions(book: &mut Book) {
-    for k in 0..96u32 {
-        let hour = Hour((21 + k / 24) as u8);
-        daybook::offer_direction(book, 1000, (k % 24) as u8, hour, 9999);
-    }
+fn nominate(book: &mut Book, rights: u32, pair: u32, i: u32) -> Answer {
+    let chosen = callrate_choices::nomination_of(callrate_choices::pair_at(rights, pair), i);
+    let mw = chosen.mw;
+    daybook::nominate(
+        book,
+        2300,
+        chosen.sender,
+        chosen.other,
+        chosen.right,
+        chosen.side,
+        mw,
+    )
 }
 
-fn offer_profiles(book: &mut Book) {
-    for k in 0..32u32 {
-        let hour = Hour((21 + k / 8) as u8);
-        daybook::offer_profile(book, 1000, (k % 8) as u8, hour, 9999);
-    }
-}
-
-fn set_up(book: &mut Book) {
-    daybook::open_day(book, 24, 1);
-    add_directions(book);
-    add_profiles(book);
-    add_parties(book);
-    offer_directions(book);
-    offer_profiles(book);
-}
-
-// ---- rights
-
-// Eight rights for each of the 64 parties: right r is party r / 8's on direction r % 8.
-pub fn many_rights(book: &mut Book) {
-    set_up(book);
-    for r in 0..512u32 {
-        let holder = (r / 8) as u8;
-        let direction = (r % 8) as u8;
-        daybook::bid(
-            book,
-            2300,
-            holder,
-            direction,
-            Session(6),
-            [10, 10, 10, 10, 0],
-        );
-    }
-}
-
-// Five rights, all party 63's: right r is on direction r.
-fn few_rights(book: &mut Book) {
-    set_up(book);
-    for r in 0..5u8 {
-        daybook::bid(book, 2300, 63, r, Session(6), [500, 500, 500, 500, 0]);
-    }
-}
-
-// ---- pairs
-
-// A pair under each of the many rights.
-fn many_pair(p: u32) -> Name {
-    let holder = (p / 8 % 64) as u8;
-    Name {
-        right: (p % 512) as u16,
-        out: holder,
-        into: 63 - holder,
-    }
-}
-
-// 127 pairs under a right, the most that it can have, since one of the two is its holder.
-fn few_pair(p: u32) -> Name {
-    let right = (p / 127 % 5) as u16;
-    let k = (p % 127) as u8;
-    if k < 64 {
-        return Name {
-            right,
-            out: 63,
-            into: k,
-        };
-    }
-    Name {
-        right,
-        out: k - 64,
-        into: 63,
-    }
-}
-
-pub fn pair_of(spread: Spread, p: u32) -> Name {
-    match spread {
-        Spread::Few => few_pair(p),
-        Spread::Many => many_pair(p),
-    }
-}
-
-pub fn mw_of(i: u32) -> [u16; 5] {
-    let small = (1 + i % 9) as u16;
-    [small, 10 - small, small + 5, 15 - small, 0]
-}
-
-pub fn nominate(book: &mut Book, pair: Name, side: u8, mw: [u16; 5]) -> Answer {
-    if side == 0 {
-        return daybook::nominate(book, 2300, pair.out, pair.into, pair.right, side, mw);
-    }
-    daybook::nominate(book, 2300, pair.into, pair.out, pair.right, side, mw)
-}
-
-fn add_rights(book: &mut Book, spread: Spread) {
-    match spread {
-        Spread::Few => few_rights(book),
-        Spread::Many => many_rights(book),
-    }
-}
-
-// Rights, and both sides of all 512 pairs.
-pub fn all_pairs(book: &mut Book, spread: Spread) {
-    add_rights(book, spread);
+// All out sides of 512 pairs, then all in sides.
+fn fill_pairs(book: &mut Book, rights: u32) {
     for i in 0..1024u32 {
-        nominate(book, pair_of(spread, i % 512), (i / 512) as u8, mw_of(i));
+        nominate(book, rights, i % 512, i);
     }
 }
 
-// ---- matching
+// Nominations that replace a side of one of 512 pairs. The sum of the answers.
+pub fn make_nominations(book: &mut Book, rights: u32, calls: u32) -> u32 {
+    fill_pairs(book, rights);
+    let mut sum = 0;
+    for i in 0..calls {
+        let answer = nominate(book, rights, callrate_choices::shuffled(i), i);
+        sum = wrapping_add_u32(sum, sum_of(answer));
+    }
+    sum
+}
 
-pub fn match_all(book: &mut Book) {
+// 512 pairs that are confirmed.
+pub fn match_pairs(book: &mut Book, rights: u32) {
+    fill_pairs(book, rights);
     for direction in 0..8u8 {
         daybook::match_session(book, 2600, direction, Session(6));
     }
+}
+
+// A set-up with no rights is for mixed bids; else there are four-hour directions, and the rights in the last session.
+pub fn fill(book: &mut Book, tally: &mut Tally, rights: u32) {
+    if rights == 0 {
+        return set_up(book, tally, 1, 24);
+    }
+    set_up(book, tally, 4, 4);
+    fill_rights(book, rights);
 }
