@@ -15,97 +15,78 @@ ghost use mathlib.Core.Path.{_≡_};
 ghost use Prim.Native.Nat.{_<_, _≤_};
 ghost use lib.ListN.{length};
 
-// A number, and a call's kind, time, party, other, direction, profile, session, right, side, hour and MW.
-type Numbers = [u32; 16];
-
 // A buffer is longer than any record.
 type Buffer = [u8; 24];
 
 // What a buffer holds where nothing was written.
 const UNTOUCHED: u8 = 0xEE;
 
-// ---- answers and calls as numbers
-
-fn reply_of(answer: Answer) -> [u32; 3] {
-    let reply = answers::numbers(answer);
-    [reply.number as u32, reply.first, reply.second]
-}
-
-fn numbers_of(number: usize, call: CallRecord) -> Numbers {
-    let fields = fields::fields_of(call);
-    let mut numbers = [0u32; 16];
-    numbers[0] = (number % 256) as u32;
-    numbers[10] = fields[14];
-    for k in 0..14 {
-        numbers[place_of(k)] = fields[k];
-    }
-    numbers
-}
-
-// The hour stands before the MW.
-fn place_of(field: usize) -> usize
-    requires { ⌜ field < 14 ⌝ }
-    ensures { λ r. ⌜ r < 16 ⌝ }
-{
-    if field < 9 {
-        return field + 1;
-    }
-    field + 2
-}
-
-fn print_call(numbers: &[u32])
-    requires { ⌜ 16 ≡ length (now numbers) ⌝ }
-{
-    fill(
-        b" kind #, time #, party #, other #, direction #, profile #, session #, right #, side #, hour #, MW # # # # #",
-        &numbers[1..16],
-    );
-}
-
 // ---- reading
 
-fn print_reading(reply: &[u32; 3], numbers: &[u32])
-    requires { ⌜ 16 ≡ length (now numbers) ⌝ }
+// An answer's number, its two details, and the length of what was read.
+fn reply_of(answer: Answer, length: usize) -> [u32; 4] {
+    let reply = answers::numbers(answer);
+    [
+        reply.number as u32,
+        reply.first,
+        reply.second,
+        (length % 256) as u32,
+    ]
+}
+
+// The fields of a call, the hour before the MW.
+fn print_call(fields: &[u32])
+    requires { ⌜ 15 ≡ length (now fields) ⌝ }
 {
-    if same(reply, &[1, 0, 0]) && same(numbers, &[0u32; 16]) {
+    fill(
+        b" kind #, time #, party #, other #, direction #, profile #, session #, right #, side #",
+        &fields[0..9],
+    );
+    fill(b", hour #", &fields[14..15]);
+    fill(b", MW # # # # #", &fields[9..14]);
+}
+
+fn print_reading(reply: &[u32; 4], fields: &[u32])
+    requires { ⌜ 15 ≡ length (now fields) ⌝ }
+{
+    if same(reply, &[1, 0, 0, 0]) && same(fields, &[0u32; 15]) {
         text(b" answer 1 and zeros");
         return;
     }
-    fill(b" answer # # #", reply);
-    fill(b", length #,", &numbers[0..1]);
-    print_call(numbers);
+    fill(b" answer # # #, length #,", reply);
+    print_call(fields);
 }
 
-fn reading_case(tally: &mut Tally, reply: [u32; 3], found: Numbers, number: u32, expected: &[u32])
-    requires { ⌜ 16 ≡ length (now expected) ⌝ }
+fn reading_case(
+    tally: &mut Tally,
+    reply: [u32; 4],
+    found: [u32; 15],
+    due: [u32; 4],
+    expected: &[u32],
+)
+    requires { ⌜ 15 ≡ length (now expected) ⌝ }
 {
-    let due = [number, 0, 0];
     print_reading(&reply, &found);
     text(b"; expected");
     print_reading(&due, expected);
     counted(tally, same(&reply, &due) & same(&found, expected));
 }
 
-fn read_case(tally: &mut Tally, bytes: &[u8], number: u32, expected: &[u32])
-    requires { ⌜ 16 ≡ length (now expected) ⌝ }
+fn read_case(tally: &mut Tally, bytes: &[u8], due: [u32; 4], expected: &[u32])
+    requires { ⌜ 15 ≡ length (now expected) ⌝ }
 {
-    let read = record::read(bytes);
-    let answer = read.answer;
-    let call = read.call;
     text(b"read");
     hex(bytes);
     text(b":");
-    reading_case(
-        tally,
-        reply_of(answer),
-        numbers_of(read.length, call),
-        number,
-        expected,
-    );
+    let read = record::read(bytes);
+    let answer = read.answer;
+    let reply = reply_of(answer, read.length);
+    let call = read.call;
+    reading_case(tally, reply, fields::fields_of(call), due, expected);
 }
 
 fn refused_case(tally: &mut Tally, bytes: &[u8]) {
-    read_case(tally, bytes, 1, &[0u32; 16]);
+    read_case(tally, bytes, [1, 0, 0, 0], &[0u32; 15]);
 }
 
 // The record cut short at each length.
@@ -141,8 +122,8 @@ fn same_bytes(one: &[u8], other: &[u8]) -> bool {
     true
 }
 
-fn print_written(reply: [u32; 3], buffer: &[u8]) {
-    fill(b" answer # # #, buffer", &reply);
+fn print_written(reply: [u32; 4], buffer: &[u8]) {
+    fill(b" answer # # #, buffer", &reply[0..3]);
     hex(buffer);
 }
 
@@ -150,21 +131,21 @@ fn written_case(
     tally: &mut Tally,
     call: CallRecord,
     buffer: &mut [u8],
-    due: [u32; 3],
+    due: [u32; 4],
     expected: &[u8],
 ) {
-    let reply = reply_of(record::write(call, buffer));
+    let reply = reply_of(record::write(call, buffer), 0);
     print_written(reply, buffer);
     text(b"; expected");
     print_written(due, expected);
     counted(tally, same(&reply, &due) & same_bytes(buffer, expected));
 }
 
-fn print_write(size: usize, call: CallRecord) {
-    let numbers = numbers_of(size, call);
+fn print_write(call: CallRecord, size: u32) {
+    let fields = fields::fields_of(call);
     text(b"write");
-    print_call(&numbers);
-    fill(b" into # bytes:", &numbers[0..1]);
+    print_call(&fields);
+    fill(b" into # bytes:", &[size]);
 }
 
 // Writes the call into a buffer of a size, which is then to begin with the bytes; where there are none, the call is to be refused.
@@ -173,8 +154,8 @@ fn write_case(tally: &mut Tally, call: CallRecord, size: usize, bytes: &[u8])
 {
     let mut buffer = [UNTOUCHED; 24];
     let expected = buffer_with(bytes);
-    let due = [(bytes.len() == 0) as u32, bytes.len() as u32, 0];
-    print_write(size, call);
+    let due = [(bytes.len() == 0) as u32, bytes.len() as u32, 0, 0];
+    print_write(call, size as u32);
     written_case(tally, call, &mut buffer[0..size], due, &expected[0..size]);
 }
 
@@ -218,9 +199,8 @@ const RECORDS: [u8; 225] = *b"\
     \x53\x00\x05\xFF\xFF\xFF\xFF\
 ";
 
-// The length of each record, and the call that it holds.
-const READINGS: [u32; 288] = [
-    7,
+// The fields of the call that each record holds.
+const FIELDS: [u32; 270] = [
     1,
     960,
     0,
@@ -230,13 +210,12 @@ const READINGS: [u32; 288] = [
     0,
     0,
     0,
+    0,
+    0,
+    0,
+    0,
+    0,
     1,
-    0,
-    0,
-    0,
-    0,
-    0,
-    9,
     1,
     1000,
     0,
@@ -246,13 +225,12 @@ const READINGS: [u32; 288] = [
     0,
     0,
     0,
-    1,
     100,
     0,
     0,
     0,
     0,
-    9,
+    1,
     1,
     65535,
     0,
@@ -262,13 +240,12 @@ const READINGS: [u32; 288] = [
     0,
     0,
     0,
-    255,
     65535,
     0,
     0,
     0,
     0,
-    7,
+    255,
     2,
     1229,
     0,
@@ -278,13 +255,12 @@ const READINGS: [u32; 288] = [
     0,
     0,
     0,
+    0,
+    0,
+    0,
+    0,
+    0,
     25,
-    0,
-    0,
-    0,
-    0,
-    0,
-    9,
     2,
     2000,
     0,
@@ -294,13 +270,12 @@ const READINGS: [u32; 288] = [
     0,
     0,
     0,
-    24,
     9999,
     0,
     0,
     0,
     0,
-    9,
+    24,
     2,
     65535,
     0,
@@ -310,13 +285,12 @@ const READINGS: [u32; 288] = [
     0,
     0,
     0,
-    255,
     65535,
     0,
     0,
     0,
     0,
-    10,
+    255,
     3,
     1100,
     2,
@@ -326,13 +300,12 @@ const READINGS: [u32; 288] = [
     1,
     0,
     0,
-    0,
     50,
     0,
     0,
     0,
     0,
-    8,
+    0,
     3,
     1080,
     0,
@@ -348,7 +321,6 @@ const READINGS: [u32; 288] = [
     0,
     0,
     0,
-    14,
     3,
     1500,
     63,
@@ -358,13 +330,12 @@ const READINGS: [u32; 288] = [
     6,
     0,
     0,
-    0,
     100,
     150,
     0,
     200,
     0,
-    18,
+    0,
     3,
     1289,
     5,
@@ -374,13 +345,12 @@ const READINGS: [u32; 288] = [
     1,
     0,
     0,
-    0,
     10,
     20,
     30,
     40,
     5000,
-    18,
+    0,
     3,
     65535,
     255,
@@ -390,13 +360,12 @@ const READINGS: [u32; 288] = [
     255,
     0,
     0,
+    65535,
+    65535,
+    65535,
+    65535,
+    65535,
     0,
-    65535,
-    65535,
-    65535,
-    65535,
-    65535,
-    10,
     4,
     1300,
     1,
@@ -412,7 +381,6 @@ const READINGS: [u32; 288] = [
     0,
     0,
     0,
-    12,
     4,
     1300,
     3,
@@ -426,9 +394,8 @@ const READINGS: [u32; 288] = [
     0,
     0,
     0,
-    0,
     9999,
-    14,
+    0,
     4,
     2789,
     0,
@@ -439,12 +406,11 @@ const READINGS: [u32; 288] = [
     0,
     1,
     0,
-    0,
     256,
     1,
     0,
     0,
-    20,
+    0,
     4,
     1081,
     7,
@@ -454,13 +420,12 @@ const READINGS: [u32; 288] = [
     0,
     12,
     0,
-    0,
     1,
     2,
     3,
     4,
     5,
-    20,
+    0,
     4,
     65535,
     255,
@@ -470,13 +435,12 @@ const READINGS: [u32; 288] = [
     0,
     65535,
     255,
+    65535,
+    65535,
+    65535,
+    65535,
+    65535,
     0,
-    65535,
-    65535,
-    65535,
-    65535,
-    65535,
-    7,
     5,
     1395,
     0,
@@ -492,7 +456,6 @@ const READINGS: [u32; 288] = [
     0,
     0,
     0,
-    7,
     5,
     65535,
     0,
@@ -510,8 +473,8 @@ const READINGS: [u32; 288] = [
     0,
 ];
 
-fn record_case(tally: &mut Tally, bytes: &[u8], expected: &[u32])
-    requires { ⌜ 16 ≡ length (now expected) ⌝ }
+fn record_case(tally: &mut Tally, bytes: &[u8], fields: &[u32])
+    requires { ⌜ 15 ≡ length (now fields) ⌝ }
 {
     if bytes.len() == 0 {
         return;
@@ -520,28 +483,25 @@ fn record_case(tally: &mut Tally, bytes: &[u8], expected: &[u32])
         return;
     }
     let buffer = buffer_with(bytes);
-    read_case(tally, bytes, 0, expected);
-    read_case(tally, &buffer, 0, expected);
+    let due = [0, 0, 0, bytes.len() as u32];
+    read_case(tally, bytes, due, fields);
+    read_case(tally, &buffer, due, fields);
     cut_cases(tally, bytes);
     write_cases(tally, bytes);
 }
 
-fn record_cases(tally: &mut Tally, records: &[u8], readings: &[u32])
-    requires { ⌜ 288 ≡ length (now readings) ⌝ }
+fn record_cases(tally: &mut Tally, records: &[u8], fields: &[u32])
+    requires { ⌜ 270 ≡ length (now fields) ⌝ }
 {
     for k in 0..18 {
-        record_case(
-            tally,
-            part(records, b'|', k),
-            &readings[16 * k..16 * k + 16],
-        );
+        record_case(tally, part(records, b'|', k), &fields[15 * k..15 * k + 15]);
     }
 }
 
 fn kinds_cases(tally: &mut Tally) {
     let records = RECORDS;
-    let readings = READINGS;
-    record_cases(tally, &records, &readings);
+    let fields = FIELDS;
+    record_cases(tally, &records, &fields);
 }
 
 // ---- what the writer refuses
@@ -728,9 +688,13 @@ fn damaged_cases(tally: &mut Tally, rows: &[u8]) {
     }
 }
 
+fn row_cases(tally: &mut Tally) {
+    let rows = DAMAGED;
+    damaged_cases(tally, &rows);
+}
+
 pub fn run(tally: &mut Tally) {
     kinds_cases(tally);
     foreign_cases(tally);
-    let rows = DAMAGED;
-    damaged_cases(tally, &rows);
+    row_cases(tally);
 }

@@ -300,28 +300,29 @@ fn model_cases(tally: &mut Tally, weekday: u32, hours: u8, model: u32, sessions:
     }
 }
 
+// A Tuesday has 24 hours.
 fn day_cases(tally: &mut Tally, weekday: u32, hours: u8)
     requires { ⌜ hours < 26 ⌝ }
 {
+    if weekday == 2 && hours != 24 {
+        print_absent(hours);
+        return;
+    }
     model_cases(tally, weekday, hours, 1, hours);
     model_cases(tally, weekday, hours, 4, 6);
 }
 
-// A day of each count of hours.
-fn weekday_cases(tally: &mut Tally, weekday: u32) {
-    day_cases(tally, weekday, 23);
-    day_cases(tally, weekday, 24);
-    day_cases(tally, weekday, 25);
+// Both lines stand before the Tuesday's cases.
+fn print_absent(hours: u8) {
+    word(
+        b"Tuesday 23 hours: there is no such day\nTuesday 25 hours: there is no such day\n|",
+        (hours == 25) as usize,
+    );
 }
 
-fn tuesday_cases(tally: &mut Tally) {
-    text(b"Tuesday 23 hours: there is no such day\nTuesday 25 hours: there is no such day\n");
-    day_cases(tally, 2, 24);
-}
-
+// A day of each count of hours for no weekday, Monday, Tuesday and Wednesday.
 pub fn run(tally: &mut Tally) {
-    weekday_cases(tally, 0);
-    weekday_cases(tally, 1);
-    tuesday_cases(tally);
-    weekday_cases(tally, 3);
+    for k in 0..12u8 {
+        day_cases(tally, k as u32 / 3, 23 + k % 3);
+    }
 }
