@@ -35,9 +35,7 @@ fn reply_of(answer: Answer, length: usize) -> [u32; 4] {
 }
 
 // The fields of a call, the hour before the MW.
-fn print_call(fields: &[u32])
-    requires { ⌜ 15 ≡ length (now fields) ⌝ }
-{
+fn print_call(fields: [u32; 15]) {
     fill(
         b" kind #, time #, party #, other #, direction #, profile #, session #, right #, side #",
         &fields[0..9],
@@ -46,14 +44,12 @@ fn print_call(fields: &[u32])
     fill(b", MW # # # # #", &fields[9..14]);
 }
 
-fn print_reading(reply: &[u32; 4], fields: &[u32])
-    requires { ⌜ 15 ≡ length (now fields) ⌝ }
-{
-    if same(reply, &[1, 0, 0, 0]) && same(fields, &[0u32; 15]) {
+fn print_reading(reply: [u32; 4], fields: [u32; 15]) {
+    if same(&reply, &[1, 0, 0, 0]) && same(&fields, &[0u32; 15]) {
         text(b" answer 1 and zeros");
         return;
     }
-    fill(b" answer # # #, length #,", reply);
+    fill(b" answer # # #, length #,", &reply);
     print_call(fields);
 }
 
@@ -62,19 +58,15 @@ fn reading_case(
     reply: [u32; 4],
     found: [u32; 15],
     due: [u32; 4],
-    expected: &[u32],
-)
-    requires { ⌜ 15 ≡ length (now expected) ⌝ }
-{
-    print_reading(&reply, &found);
+    expected: [u32; 15],
+) {
+    print_reading(reply, found);
     text(b"; expected");
-    print_reading(&due, expected);
-    counted(tally, same(&reply, &due) & same(&found, expected));
+    print_reading(due, expected);
+    counted(tally, same(&reply, &due) & same(&found, &expected));
 }
 
-fn read_case(tally: &mut Tally, bytes: &[u8], due: [u32; 4], expected: &[u32])
-    requires { ⌜ 15 ≡ length (now expected) ⌝ }
-{
+fn read_case(tally: &mut Tally, bytes: &[u8], due: [u32; 4], expected: [u32; 15]) {
     text(b"read");
     hex(bytes);
     text(b":");
@@ -86,7 +78,7 @@ fn read_case(tally: &mut Tally, bytes: &[u8], due: [u32; 4], expected: &[u32])
 }
 
 fn refused_case(tally: &mut Tally, bytes: &[u8]) {
-    read_case(tally, bytes, [1, 0, 0, 0], &[0u32; 15]);
+    read_case(tally, bytes, [1, 0, 0, 0], [0u32; 15]);
 }
 
 // The record cut short at each length.
@@ -144,7 +136,7 @@ fn written_case(
 fn print_write(call: CallRecord, size: u32) {
     let fields = fields::fields_of(call);
     text(b"write");
-    print_call(&fields);
+    print_call(fields);
     fill(b" into # bytes:", &[size]);
 }
 
@@ -200,282 +192,62 @@ const RECORDS: [u8; 225] = *b"\
 ";
 
 // The fields of the call that each record holds.
-const FIELDS: [u32; 270] = [
-    1,
-    960,
-    0,
-    0,
-    0,
-    0,
-    0,
-    0,
-    0,
-    0,
-    0,
-    0,
-    0,
-    0,
-    1,
-    1,
-    1000,
-    0,
-    0,
-    0,
-    0,
-    0,
-    0,
-    0,
-    100,
-    0,
-    0,
-    0,
-    0,
-    1,
-    1,
-    65535,
-    0,
-    0,
-    255,
-    0,
-    0,
-    0,
-    0,
-    65535,
-    0,
-    0,
-    0,
-    0,
-    255,
-    2,
-    1229,
-    0,
-    0,
-    0,
-    7,
-    0,
-    0,
-    0,
-    0,
-    0,
-    0,
-    0,
-    0,
-    25,
-    2,
-    2000,
-    0,
-    0,
-    0,
-    1,
-    0,
-    0,
-    0,
-    9999,
-    0,
-    0,
-    0,
-    0,
-    24,
-    2,
-    65535,
-    0,
-    0,
-    0,
-    255,
-    0,
-    0,
-    0,
-    65535,
-    0,
-    0,
-    0,
-    0,
-    255,
-    3,
-    1100,
-    2,
-    0,
-    0,
-    0,
-    1,
-    0,
-    0,
-    50,
-    0,
-    0,
-    0,
-    0,
-    0,
-    3,
-    1080,
-    0,
-    0,
-    0,
-    0,
-    1,
-    0,
-    0,
-    0,
-    0,
-    0,
-    0,
-    0,
-    0,
-    3,
-    1500,
-    63,
-    0,
-    23,
-    0,
-    6,
-    0,
-    0,
-    100,
-    150,
-    0,
-    200,
-    0,
-    0,
-    3,
-    1289,
-    5,
-    0,
-    1,
-    0,
-    1,
-    0,
-    0,
-    10,
-    20,
-    30,
-    40,
-    5000,
-    0,
-    3,
-    65535,
-    255,
-    0,
-    255,
-    0,
-    255,
-    0,
-    0,
-    65535,
-    65535,
-    65535,
-    65535,
-    65535,
-    0,
-    4,
-    1300,
-    1,
-    2,
-    0,
-    0,
-    0,
-    300,
-    0,
-    0,
-    0,
-    0,
-    0,
-    0,
-    0,
-    4,
-    1300,
-    3,
-    3,
-    0,
-    0,
-    0,
-    511,
-    1,
-    0,
-    0,
-    0,
-    0,
-    9999,
-    0,
-    4,
-    2789,
-    0,
-    63,
-    0,
-    0,
-    0,
-    0,
-    1,
-    0,
-    256,
-    1,
-    0,
-    0,
-    0,
-    4,
-    1081,
-    7,
-    8,
-    0,
-    0,
-    0,
-    12,
-    0,
-    1,
-    2,
-    3,
-    4,
-    5,
-    0,
-    4,
-    65535,
-    255,
-    255,
-    0,
-    0,
-    0,
-    65535,
-    255,
-    65535,
-    65535,
-    65535,
-    65535,
-    65535,
-    0,
-    5,
-    1395,
-    0,
-    0,
-    2,
-    0,
-    1,
-    0,
-    0,
-    0,
-    0,
-    0,
-    0,
-    0,
-    0,
-    5,
-    65535,
-    0,
-    0,
-    255,
-    0,
-    255,
-    0,
-    0,
-    0,
-    0,
-    0,
-    0,
-    0,
-    0,
-];
+fn fields_at(record: usize) -> [u32; 15] {
+    match record {
+        0 => [1, 960, 0, 0, 0, 0, 0, 0, 0, 0, 0, 0, 0, 0, 1],
+        1 => [1, 1000, 0, 0, 0, 0, 0, 0, 0, 100, 0, 0, 0, 0, 1],
+        2 => [1, 65535, 0, 0, 255, 0, 0, 0, 0, 65535, 0, 0, 0, 0, 255],
+        3 => [2, 1229, 0, 0, 0, 7, 0, 0, 0, 0, 0, 0, 0, 0, 25],
+        4 => [2, 2000, 0, 0, 0, 1, 0, 0, 0, 9999, 0, 0, 0, 0, 24],
+        5 => [2, 65535, 0, 0, 0, 255, 0, 0, 0, 65535, 0, 0, 0, 0, 255],
+        6 => [3, 1100, 2, 0, 0, 0, 1, 0, 0, 50, 0, 0, 0, 0, 0],
+        7 => [3, 1080, 0, 0, 0, 0, 1, 0, 0, 0, 0, 0, 0, 0, 0],
+        8 => [3, 1500, 63, 0, 23, 0, 6, 0, 0, 100, 150, 0, 200, 0, 0],
+        9 => [3, 1289, 5, 0, 1, 0, 1, 0, 0, 10, 20, 30, 40, 5000, 0],
+        10 => [
+            3,
+            65535,
+            255,
+            0,
+            255,
+            0,
+            255,
+            0,
+            0,
+            65535,
+            65535,
+            65535,
+            65535,
+            65535,
+            0,
+        ],
+        11 => [4, 1300, 1, 2, 0, 0, 0, 300, 0, 0, 0, 0, 0, 0, 0],
+        12 => [4, 1300, 3, 3, 0, 0, 0, 511, 1, 0, 0, 0, 0, 9999, 0],
+        13 => [4, 2789, 0, 63, 0, 0, 0, 0, 1, 0, 256, 1, 0, 0, 0],
+        14 => [4, 1081, 7, 8, 0, 0, 0, 12, 0, 1, 2, 3, 4, 5, 0],
+        15 => [
+            4,
+            65535,
+            255,
+            255,
+            0,
+            0,
+            0,
+            65535,
+            255,
+            65535,
+            65535,
+            65535,
+            65535,
+            65535,
+            0,
+        ],
+        16 => [5, 1395, 0, 0, 2, 0, 1, 0, 0, 0, 0, 0, 0, 0, 0],
+        _ => [5, 65535, 0, 0, 255, 0, 255, 0, 0, 0, 0, 0, 0, 0, 0],
+    }
+}
 
-fn record_case(tally: &mut Tally, bytes: &[u8], fields: &[u32])
-    requires { ⌜ 15 ≡ length (now fields) ⌝ }
-{
+fn record_case(tally: &mut Tally, bytes: &[u8], fields: [u32; 15]) {
     if bytes.len() == 0 {
         return;
     }
@@ -490,18 +262,15 @@ fn record_case(tally: &mut Tally, bytes: &[u8], fields: &[u32])
     write_cases(tally, bytes);
 }
 
-fn record_cases(tally: &mut Tally, records: &[u8], fields: &[u32])
-    requires { ⌜ 270 ≡ length (now fields) ⌝ }
-{
+fn record_cases(tally: &mut Tally, records: &[u8]) {
     for k in 0..18 {
-        record_case(tally, part(records, b'|', k), &fields[15 * k..15 * k + 15]);
+        record_case(tally, part(records, b'|', k), fields_at(k));
     }
 }
 
 fn kinds_cases(tally: &mut Tally) {
     let records = RECORDS;
-    let fields = FIELDS;
-    record_cases(tally, &records, &fields);
+    record_cases(tally, &records);
 }
 
 // ---- what the writer refuses

@@ -6,10 +6,10 @@ use Rattle.cases_records.proofs.record_cases.Statement.{statement}
 use Rattle.cases_records.proofs.record_cases.Tie as tie
 
 abbrev Inv-loop : tie.InvT-loop
-Inv-loop tally₀ records readings k₀ tally k = k ≤ 18
+Inv-loop tally₀ records k₀ tally k = k ≤ 18
 
 abbrev μ-loop : tie.MeasureT-loop
-μ-loop tally₀ records readings k₀ tally k = 18 - k
+μ-loop tally₀ records k₀ tally k = 18 - k
 
 pub record-cases-spec : {M : Type 1} → statement M
 record-cases-spec =
@@ -19,13 +19,7 @@ record-cases-spec =
     μ-loop
     (λ c. search needs)
     (λ c κs. search needs)
-    (λ c. search needs)
-    (λ c. search needs)
-    (λ c. search needs)
-    (λ c. search needs)
-    (λ c. search needs)
-    (λ c. search needs)
-    (λ c. search needs)
+    (λ c κs. search needs)
     (λ c κs. search needs)
     (λ c. search needs)
     (λ c. search needs)
