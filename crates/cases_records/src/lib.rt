@@ -30,7 +30,7 @@ fn reply_of(answer: Answer, length: usize) -> [u32; 4] {
         reply.number as u32,
         reply.first,
         reply.second,
-        (length % 256) as u32,
+        (length % 4294967296) as u32,
     ]
 }
 
