@@ -74,7 +74,7 @@ fn set_up(model: u8, hours: RangeInclusive<u8>, counts: &mut Counts) -> Book {
     for number in 0..100 {
         counts.add(book.add_party(code_of(number), 127));
     }
-    for hour in hours {
+    for hour in hours.rev() {
         for direction in 0..24 {
             counts.add(book.offer_direction(1000, direction, hour, 9999));
         }

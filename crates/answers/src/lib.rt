@@ -1,9 +1,10 @@
 // What the calls answer: a verdict before anything is stored, the replies of the reads, and the numbers of an answer. What each call promises stands in specs/.
 ghost use mathlib.Core.Path.{_≡_};
+ghost use mathlib.Core.Bool.{_||_};
 ghost use lib.Dec.{ltb};
 ghost use Rattle.rules.specs.Basics.{bit};
 ghost use Rattle.rules.specs.Said.{said, saidNumbers, capacityNumber};
-ghost use Rattle.rules.specs.Refusals.{partyUnknown, directionUnknown, hourUnknown};
+ghost use Rattle.rules.specs.Refusals.{partyUnknown, directionUnknown, profileUnknown, hourUnknown};
 ghost use Rattle.cells.specs.View.{bookOf};
 use cells::Book;
 use rules::Answer;
@@ -59,6 +60,19 @@ pub fn hour_unknown(book: &Book, hour: Hour) -> bool
 {
     let number = hour.0;
     number < 1 || cells::hours(book) < number
+}
+
+pub fn direction_hour_unknown(book: &Book, direction: u8, hour: Hour) -> bool
+    ensures { λ r. ⌜ r ≡ (directionUnknown (bookOf (now (book .entry))) direction || hourUnknown (bookOf (now (book .entry))) (hour .0)) ⌝ }
+{
+    direction_unknown(book, direction) || hour_unknown(book, hour)
+}
+
+pub fn profile_hour_unknown(book: &Book, profile: u8, hour: Hour) -> bool
+    ensures { λ r. ⌜ r ≡ (profileUnknown (bookOf (now (book .entry))) profile || hourUnknown (bookOf (now (book .entry))) (hour .0)) ⌝ }
+{
+    cells::count_in(book, cells::PROFILES, cells::PROFILE_LIMIT) <= profile as u32
+        || hour_unknown(book, hour)
 }
 
 pub fn party_unknown(book: &Book, party: u8) -> bool

@@ -64,6 +64,7 @@ fn run_load(name: &[u8], load: Load, rights: u32, calls: u32) {
     let mut tally = [0u32; 17];
     callrate_books::fill(&mut book, &mut before, rights);
     let sum = make_calls(&mut book, &mut tally, load, rights, calls);
+    // Only the load `bids` begins with no right.
     if rights == 0 {
         print_bids(&before, &tally);
     }

@@ -1,6 +1,6 @@
 // The search for a shortage, and the granting of a bid's hours, in place.
 ghost use mathlib.Core.Path.{_≡_};
-ghost use Prim.Native.Nat.{_+_, _*_, _-_, _≤_, _<_};
+ghost use Prim.Native.Nat.{_+_, _-_, _≤_, _<_};
 ghost use lib.Dec.{ltb};
 ghost use lib.ListN.{drop};
 ghost use Rattle.rules.specs.Basics.{bit, anyAbove};

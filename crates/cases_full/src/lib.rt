@@ -10,11 +10,11 @@ use cells::Book;
 use rules::Answer;
 use rules::Hour;
 use rules::Session;
-ghost use Prim.Native.Nat.{_<_};
 
 // A row for each call, or for a call that is made many times.
 const ROWS: usize = 24;
 
+// What each row tries.
 const TRIED: [u8; 865] = *b"\
     hours 24, weekday 1|\
     42 directions|\
@@ -42,199 +42,43 @@ const TRIED: [u8; 865] = *b"\
     nomination at 1100 by party 0 with party 0 on right 511, side 0: 2 0 0 0 0\
 ";
 
-// The call of each row: 0 opens a day, 1 to 6 are a direction, a profile, a party, an offer, a bid and a nomination, 7 reads a right.
-const CALLS: [u8; ROWS] = [
-    0,
-    1,
-    2,
-    3,
-    1,
-    1,
-    2,
-    3,
-    0,
-    1,
-    1,
-    3,
-    3,
-    4,
-    4,
-    5,
-    5,
-    5,
-    5,
-    5,
-    7,
-    6,
-    6,
-    6,
-];
+// The numbers of each row:
+// - its call: 0 opens a day, 1 to 6 are a direction, a profile, a party, an offer, a bid and a nomination, 7 reads a right;
+// - three of the call: of a direction 7 times the out operator and the in operator, then the model; of a party its code and access; of
+//   an offer, second, the direction; of a bid, second and third, the party and the direction; of a nomination the right, the other party
+//   and the MW;
+// - how many times it is made, for the entries from 0;
+// - what is expected: the answer's number, and its detail or how many are granted.
+type Row = [u16; 7];
 
-// Its numbers: of a direction 7 times the out operator and the in operator, then the model; of a party its code and access; of an offer
-// the direction; of a bid the party and the direction; of a nomination the right, the other party and the MW.
-const ENTRIES: [u16; ROWS] = [
-    0,
-    0,
-    0,
-    0,
-    47,
-    1,
-    0,
-    100,
-    0,
-    4,
-    29,
-    100,
-    101,
-    0,
-    0,
-    0,
-    0,
-    0,
-    0,
-    0,
-    511,
-    0,
-    0,
-    511,
-];
-
-const FIRSTS: [u8; ROWS] = [
-    0,
-    1,
-    0,
-    1,
-    1,
-    1,
-    0,
-    1,
-    0,
-    1,
-    4,
-    17,
-    17,
-    0,
-    1,
-    0,
-    0,
-    0,
-    1,
-    0,
-    0,
-    0,
-    1,
-    0,
-];
-
-const SECONDS: [u8; ROWS] = [
-    0,
-    0,
-    0,
-    0,
-    0,
-    0,
-    0,
-    0,
-    0,
-    0,
-    0,
-    0,
-    0,
-    0,
-    0,
-    1,
-    0,
-    0,
-    1,
-    1,
-    0,
-    1,
-    1,
-    2,
-];
-
-// How many times it is made, for the entries from 0.
-const TIMES: [u16; ROWS] = [
-    1,
-    49,
-    20,
-    100,
-    1,
-    1,
-    1,
-    1,
-    1,
-    1,
-    1,
-    1,
-    1,
-    1,
-    1,
-    1,
-    600,
-    1,
-    1,
-    1,
-    1,
-    600,
-    1,
-    1,
-];
-
-// What is expected: the answer's number, and its detail or how many are granted.
-const NUMBERS: [u32; ROWS] = [
-    0,
-    0,
-    0,
-    0,
-    13,
-    7,
-    13,
-    13,
-    0,
-    0,
-    0,
-    0,
-    0,
-    0,
-    0,
-    0,
-    0,
-    13,
-    13,
-    0,
-    0,
-    0,
-    13,
-    0,
-];
-
-const DETAILS: [u32; ROWS] = [
-    0,
-    24,
-    8,
-    64,
-    0,
-    0,
-    0,
-    0,
-    0,
-    0,
-    1,
-    0,
-    1,
-    9999,
-    9999,
-    0,
-    511,
-    0,
-    0,
-    0,
-    0,
-    512,
-    0,
-    1,
-];
+fn row_at(row: usize) -> Row {
+    match row {
+        0 => [0, 0, 0, 0, 1, 0, 0],
+        1 => [1, 0, 1, 0, 49, 0, 24],
+        2 => [2, 0, 0, 0, 20, 0, 8],
+        3 => [3, 0, 1, 0, 100, 0, 64],
+        4 => [1, 47, 1, 0, 1, 13, 0],
+        5 => [1, 1, 1, 0, 1, 7, 0],
+        6 => [2, 0, 0, 0, 1, 13, 0],
+        7 => [3, 100, 1, 0, 1, 13, 0],
+        8 => [0, 0, 0, 0, 1, 0, 0],
+        9 => [1, 4, 1, 0, 1, 0, 0],
+        10 => [1, 29, 4, 0, 1, 0, 1],
+        11 => [3, 100, 17, 0, 1, 0, 0],
+        12 => [3, 101, 17, 0, 1, 0, 1],
+        13 => [4, 0, 0, 0, 1, 0, 9999],
+        14 => [4, 0, 1, 0, 1, 0, 9999],
+        15 => [5, 0, 0, 1, 1, 0, 0],
+        16 => [5, 0, 0, 0, 600, 0, 511],
+        17 => [5, 0, 0, 0, 1, 13, 0],
+        18 => [5, 0, 1, 1, 1, 13, 0],
+        19 => [5, 0, 0, 1, 1, 0, 0],
+        20 => [7, 511, 0, 0, 1, 0, 0],
+        21 => [6, 0, 0, 1, 600, 0, 512],
+        22 => [6, 0, 1, 1, 1, 13, 0],
+        _ => [6, 511, 0, 2, 1, 0, 1],
+    }
+}
 
 // ---- the calls
 
@@ -259,13 +103,11 @@ fn nominate(book: &mut Book, right: u16, other: u8, mw: u8) -> Answer {
     daybook::nominate(book, 1100, 0, other, right, 0, [mw as u16, 0, 0, 0, 0])
 }
 
-fn call(book: &mut Book, row: usize, entry: u16) -> Answer
-    requires { ⌜ row < 24 ⌝ }
-{
+fn call(book: &mut Book, row: Row, entry: u16) -> Answer {
     let number = (entry % 256) as u8;
-    let first = FIRSTS[row];
-    let second = SECONDS[row];
-    match CALLS[row] {
+    let first = (row[2] % 256) as u8;
+    let second = (row[3] % 256) as u8;
+    match row[0] {
         0 => daybook::open_day(book, 24, 1),
         1 => daybook::add_direction(book, number / 7, number % 7, first),
         2 => daybook::add_profile(book, 3),
@@ -276,9 +118,7 @@ fn call(book: &mut Book, row: usize, entry: u16) -> Answer
     }
 }
 
-fn count_granted(book: &mut Book, row: usize, times: u16) -> u32
-    requires { ⌜ row < 24 ⌝ }
-{
+fn count_granted(book: &mut Book, row: Row, times: u16) -> u32 {
     let mut count = 0;
     for entry in 0..times {
         let granted = daybook::numbers(call(book, row, entry)).number == 0;
@@ -289,23 +129,19 @@ fn count_granted(book: &mut Book, row: usize, times: u16) -> u32
 
 // ---- cases
 
-fn count_case(tally: &mut Tally, book: &mut Book, row: usize)
-    requires { ⌜ row < 24 ⌝ }
-{
-    let numbers = [count_granted(book, row, TIMES[row]), DETAILS[row]];
+fn count_case(tally: &mut Tally, book: &mut Book, row: Row) {
+    let numbers = [count_granted(book, row, row[4]), row[6] as u32];
     case(tally, b": # granted, expected #", &numbers);
 }
 
-fn call_case(tally: &mut Tally, book: &mut Book, row: usize)
-    requires { ⌜ row < 24 ⌝ }
-{
-    let reply = daybook::numbers(call(book, row, ENTRIES[row]));
+fn call_case(tally: &mut Tally, book: &mut Book, row: Row) {
+    let reply = daybook::numbers(call(book, row, row[1]));
     let numbers = [
         reply.number as u32,
         reply.first,
         reply.second,
-        NUMBERS[row],
-        DETAILS[row],
+        row[5] as u32,
+        row[6] as u32,
         0,
     ];
     case(tally, b" = # # #, expected # # #", &numbers);
@@ -340,12 +176,10 @@ fn right_case(tally: &mut Tally, book: &Book) {
     counted(tally, same(&numbers, &[0, 0, 0, 0, 0, 1, 1, 0, 0, 0, 0]));
 }
 
-fn row_case(tally: &mut Tally, book: &mut Book, row: usize)
-    requires { ⌜ row < 24 ⌝ }
-{
-    if 1 < TIMES[row] {
+fn row_case(tally: &mut Tally, book: &mut Book, row: Row) {
+    if 1 < row[4] {
         count_case(tally, book, row);
-    } else if CALLS[row] == 7 {
+    } else if row[0] == 7 {
         right_case(tally, book);
     } else {
         call_case(tally, book, row);
@@ -360,7 +194,7 @@ fn print_tried(row: usize) {
 fn row_cases(tally: &mut Tally, book: &mut Book) {
     for row in 0..ROWS {
         print_tried(row);
-        row_case(tally, book, row);
+        row_case(tally, book, row_at(row));
     }
 }
 

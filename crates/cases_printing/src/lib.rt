@@ -1,6 +1,4 @@
 // What every section prints with, on standard output, and the tally of cases.
-ghost use Prim.Native.Nat.{_≤_};
-ghost use lib.ListN.{length};
 
 // How many cases ran, and how many of them did not come out as expected.
 pub type Tally = [u32; 2];

@@ -34,7 +34,42 @@ fn reply_of(answer: Answer, length: usize) -> [u32; 4] {
     ]
 }
 
-// The fields of a call, the hour before the MW.
+fn mw_of(mw: [u16; 5]) -> [u32; 5] {
+    [
+        mw[0] as u32,
+        mw[1] as u32,
+        mw[2] as u32,
+        mw[3] as u32,
+        mw[4] as u32,
+    ]
+}
+
+// The fields of a call in the order of their bits.
+fn fields_of(call: CallRecord) -> [u32; 15] {
+    let session = call.session;
+    let hour = call.hour;
+    let five = call.mw;
+    let mw = mw_of(five);
+    [
+        call.kind as u32,
+        call.time as u32,
+        call.party as u32,
+        call.other as u32,
+        call.direction as u32,
+        call.profile as u32,
+        session.0 as u32,
+        call.right as u32,
+        call.side as u32,
+        mw[0],
+        mw[1],
+        mw[2],
+        mw[3],
+        mw[4],
+        hour.0 as u32,
+    ]
+}
+
+// The hour stands before the MW.
 fn print_call(fields: [u32; 15]) {
     fill(
         b" kind #, time #, party #, other #, direction #, profile #, session #, right #, side #",
@@ -74,7 +109,7 @@ fn read_case(tally: &mut Tally, bytes: &[u8], due: [u32; 4], expected: [u32; 15]
     let answer = read.answer;
     let reply = reply_of(answer, read.length);
     let call = read.call;
-    reading_case(tally, reply, fields::fields_of(call), due, expected);
+    reading_case(tally, reply, fields_of(call), due, expected);
 }
 
 fn refused_case(tally: &mut Tally, bytes: &[u8]) {
@@ -134,7 +169,7 @@ fn written_case(
 }
 
 fn print_write(call: CallRecord, size: u32) {
-    let fields = fields::fields_of(call);
+    let fields = fields_of(call);
     text(b"write");
     print_call(fields);
     fill(b" into # bytes:", &[size]);
@@ -170,6 +205,9 @@ fn write_cases(tally: &mut Tally, bytes: &[u8])
 
 // ---- records of each kind
 
+const RECORD_COUNT: usize = 18;
+
+// The records, with bars between them; none has the byte of a bar, 7C.
 const RECORDS: [u8; 225] = *b"\
     \x13\x40\x01\xC0\x03\x00\x01|\
     \x13\x42\x01\xE8\x03\x00\x64\x00\x01|\
@@ -191,6 +229,43 @@ const RECORDS: [u8; 225] = *b"\
     \x53\x00\x05\xFF\xFF\xFF\xFF\
 ";
 
+// A bid and a nomination with the most that each field holds.
+const MOST_OF_BID: [u32; 15] = [
+    3,
+    65535,
+    255,
+    0,
+    255,
+    0,
+    255,
+    0,
+    0,
+    65535,
+    65535,
+    65535,
+    65535,
+    65535,
+    0,
+];
+
+const MOST_OF_NOMINATION: [u32; 15] = [
+    4,
+    65535,
+    255,
+    255,
+    0,
+    0,
+    0,
+    65535,
+    255,
+    65535,
+    65535,
+    65535,
+    65535,
+    65535,
+    0,
+];
+
 // The fields of the call that each record holds.
 fn fields_at(record: usize) -> [u32; 15] {
     match record {
@@ -204,44 +279,12 @@ fn fields_at(record: usize) -> [u32; 15] {
         7 => [3, 1080, 0, 0, 0, 0, 1, 0, 0, 0, 0, 0, 0, 0, 0],
         8 => [3, 1500, 63, 0, 23, 0, 6, 0, 0, 100, 150, 0, 200, 0, 0],
         9 => [3, 1289, 5, 0, 1, 0, 1, 0, 0, 10, 20, 30, 40, 5000, 0],
-        10 => [
-            3,
-            65535,
-            255,
-            0,
-            255,
-            0,
-            255,
-            0,
-            0,
-            65535,
-            65535,
-            65535,
-            65535,
-            65535,
-            0,
-        ],
+        10 => MOST_OF_BID,
         11 => [4, 1300, 1, 2, 0, 0, 0, 300, 0, 0, 0, 0, 0, 0, 0],
         12 => [4, 1300, 3, 3, 0, 0, 0, 511, 1, 0, 0, 0, 0, 9999, 0],
         13 => [4, 2789, 0, 63, 0, 0, 0, 0, 1, 0, 256, 1, 0, 0, 0],
         14 => [4, 1081, 7, 8, 0, 0, 0, 12, 0, 1, 2, 3, 4, 5, 0],
-        15 => [
-            4,
-            65535,
-            255,
-            255,
-            0,
-            0,
-            0,
-            65535,
-            255,
-            65535,
-            65535,
-            65535,
-            65535,
-            65535,
-            0,
-        ],
+        15 => MOST_OF_NOMINATION,
         16 => [5, 1395, 0, 0, 2, 0, 1, 0, 0, 0, 0, 0, 0, 0, 0],
         _ => [5, 65535, 0, 0, 255, 0, 255, 0, 0, 0, 0, 0, 0, 0, 0],
     }
@@ -249,9 +292,11 @@ fn fields_at(record: usize) -> [u32; 15] {
 
 fn record_case(tally: &mut Tally, bytes: &[u8], fields: [u32; 15]) {
     if bytes.len() == 0 {
+        counted(tally, false);
         return;
     }
     if 20 < bytes.len() {
+        counted(tally, false);
         return;
     }
     let buffer = buffer_with(bytes);
@@ -263,7 +308,7 @@ fn record_case(tally: &mut Tally, bytes: &[u8], fields: [u32; 15]) {
 }
 
 fn record_cases(tally: &mut Tally, records: &[u8]) {
-    for k in 0..18 {
+    for k in 0..RECORD_COUNT {
         record_case(tally, part(records, b'|', k), fields_at(k));
     }
 }
@@ -328,7 +373,9 @@ fn foreign_cases(tally: &mut Tally) {
 
 // ---- damaged records
 
-// What is wrong, a colon, and the bytes, up to a bar.
+const DAMAGED_COUNT: usize = 113;
+
+// What is wrong, a colon, and the bytes, up to a bar; none has the byte of a bar, 7C, or of a colon, 3A.
 const DAMAGED: [u8; 3777] = *b"\
     no bytes:|\
     one byte:\x57|\
@@ -452,7 +499,7 @@ fn damaged_case(tally: &mut Tally, row: &[u8]) {
 }
 
 fn damaged_cases(tally: &mut Tally, rows: &[u8]) {
-    for k in 0..113 {
+    for k in 0..DAMAGED_COUNT {
         damaged_case(tally, part(rows, b'|', k));
     }
 }

@@ -11,9 +11,20 @@ use rules::Session;
 use rules::less;
 ghost use Prim.Native.Nat.{_<_, _≤_};
 
-// The rows of a session's windows: bids, bids about the Wednesday hold, nominations, matching, offers for the session's first hour, and
-// offers for its last hour or, in the one-hour model, for a profile.
-const HOLD: usize = 1;
+// The Wednesday hold of bids.
+const HOLD_BEGINS: u32 = 1170;
+
+const HOLD_ENDS: u32 = 1290;
+
+// The rows of a session's windows: bids, bids about the hold, nominations, matching, offers for the session's first hour, and offers for
+// its last hour or, in the one-hour model, for a profile.
+const BIDS: usize = 0;
+
+const HELD_BIDS: usize = 1;
+
+const NOMINATIONS: usize = 2;
+
+const MATCHING: usize = 3;
 
 const LAST_OFFERS: usize = 5;
 
@@ -113,46 +124,38 @@ fn gate_of(place: Place) -> u32
     first_of(place)
 }
 
+// A window that is tried about its opening and its close.
+fn about_gates(row: usize, opens: u32, closes: u32) -> Window {
+    Window {
+        row,
+        opens,
+        closes,
+        from: opens,
+        to: closes,
+    }
+}
+
+// The same about two other minutes.
+fn about(window: Window, from: u32, to: u32) -> Window {
+    Window {
+        row: window.row,
+        opens: window.opens,
+        closes: window.closes,
+        from,
+        to,
+    }
+}
+
 fn window_of(place: Place, row: usize) -> Window {
     let shift = 60 * gate_of(place);
     let opens = if place.model == 1 { 1080 } else { 1020 + shift };
     let bids = 1230 + shift;
     match row {
-        0 => Window {
-            row,
-            opens,
-            closes: bids,
-            from: opens,
-            to: bids,
-        },
-        HOLD => Window {
-            row,
-            opens,
-            closes: bids,
-            from: 1170,
-            to: 1290,
-        },
-        2 => Window {
-            row,
-            opens,
-            closes: 1290 + shift,
-            from: opens,
-            to: 1290 + shift,
-        },
-        3 => Window {
-            row,
-            opens: 1335 + shift,
-            closes: 3000,
-            from: 1335 + shift,
-            to: 2999,
-        },
-        _ => Window {
-            row,
-            opens: 960,
-            closes: bids,
-            from: 960,
-            to: bids,
-        },
+        BIDS => about_gates(row, opens, bids),
+        HELD_BIDS => about(about_gates(row, opens, bids), HOLD_BEGINS, HOLD_ENDS),
+        NOMINATIONS => about_gates(row, opens, 1290 + shift),
+        MATCHING => about(about_gates(row, 1335 + shift, 3000), 1335 + shift, 2999),
+        _ => about_gates(row, 960, bids),
     }
 }
 
@@ -166,9 +169,12 @@ fn minute_of(window: Window, k: u32) -> u32 {
     }
 }
 
-// Bids are held on a Wednesday from 1170 to 1290.
+// Bids are held on a Wednesday.
 fn is_expected(weekday: u32, window: Window, minute: u32) -> bool {
-    let held = (weekday == 3) & (window.row <= HOLD) & (1170 <= minute) & (minute < 1290);
+    let held = (weekday == 3)
+        & (window.row <= HELD_BIDS)
+        & (HOLD_BEGINS <= minute)
+        & (minute < HOLD_ENDS);
     (window.opens <= minute) & (minute < window.closes) & !held
 }
 
@@ -186,9 +192,9 @@ fn is_inside(place: Place, row: usize, minute: u32) -> bool {
     let weekday = place.weekday;
     let model = place.model;
     match row {
-        0 | HOLD => !windows::bid_outside(hours, weekday, model, session, minute),
-        2 => !windows::nomination_outside(hours, weekday, model, session, minute),
-        3 => !windows::matching_outside(hours, weekday, model, session, minute),
+        BIDS | HELD_BIDS => !windows::bid_outside(hours, weekday, model, session, minute),
+        NOMINATIONS => !windows::nomination_outside(hours, weekday, model, session, minute),
+        MATCHING => !windows::matching_outside(hours, weekday, model, session, minute),
         _ => {
             let hour = Hour((hour_of(place, row) % 256) as u8);
             !windows::offer_outside(hours, weekday, model, hour, minute)
@@ -221,7 +227,10 @@ fn print_name(model: u32, row: usize) {
         text(b"offers for a profile: ");
         return;
     }
-    word(b"bids: |bids: |nominations: |matching: |offers: ", row);
+    word(
+        b"bids: |bids: |nominations: |matching: |offers: |offers: ",
+        row,
+    );
 }
 
 fn print_row(place: Place, row: usize) {
@@ -242,7 +251,7 @@ fn window_case(tally: &mut Tally, place: Place, row: usize) {
 
 fn window_cases(tally: &mut Tally, place: Place) {
     for row in 0..6 {
-        if row == HOLD && place.weekday != 3 {
+        if row == HELD_BIDS && place.weekday != 3 {
             continue;
         }
         window_case(tally, place, row);

@@ -102,19 +102,19 @@ pub fn match_session(book: &mut Book, time: u32, direction: u8, session: Session
 pub fn left_of_direction(book: &Book, direction: u8, hour: Hour) -> LeftRead
     ensures { λ r. ⌜ ReadsDirection (now (book .entry)) direction (hour .0) r ⌝ }
 {
-    left::left_of_direction(book, direction, hour)
+    reads::left_of_direction(book, direction, hour)
 }
 
 pub fn left_of_profile(book: &Book, profile: u8, hour: Hour) -> LeftRead
     ensures { λ r. ⌜ ReadsProfile (now (book .entry)) profile (hour .0) r ⌝ }
 {
-    left::left_of_profile(book, profile, hour)
+    reads::left_of_profile(book, profile, hour)
 }
 
 pub fn right_at(book: &Book, right: u16) -> RightRead
     ensures { λ r. ⌜ ReadsRight (now (book .entry)) right r ⌝ }
 {
-    rights::right_at(book, right)
+    reads::right_at(book, right)
 }
 
 pub fn confirmed_of(book: &Book, right: u16, out: u8, into: u8) -> ConfirmedRead

@@ -2,10 +2,7 @@
 -- Assumes nothing.
 use Prim.Native.Nat.{ℕ}
 use mathlib.Core.Path.{_≡_}
-use mathlib.Core.Bool.{cond}
 use mathlib.Core.List.{List}
-use lib.Dec.{eqb}
-use Rattle.rules.specs.Book.{Book, right, direction}
 use Rattle.rules.specs.Calls.{Nominate}
 use Rattle.rules.specs.Nominations.{outOf, intoOf}
 use Rattle.rules.specs.Refusals.{number}
@@ -18,21 +15,6 @@ use Rattle.answers.specs.declared.Verdict.the-variants.{No as Refused}
 use Rattle.answers.specs.Promises.{Judged}
 use Rattle.nominations.specs.declared.NominationVerdict.{NominationVerdict}
 use Rattle.nominations.specs.declared.NominationVerdict.the-variants.{Clear, No}
-
--- ---- a right's holder, direction and session, by number
-
-abbrev pub rightHolder : Book → ℕ → ℕ
-rightHolder b r = right (b .rights) r .holder
-
-abbrev pub rightDirection : Book → ℕ → ℕ
-rightDirection b r = right (b .rights) r .direction
-
-abbrev pub rightSession : Book → ℕ → ℕ
-rightSession b r = right (b .rights) r .session
-
--- the operator of a direction on a side
-abbrev pub operatorOf : Book → ℕ → ℕ → ℕ
-operatorOf b d side = cond (eqb side 0) (direction (b .directions) d .out) (direction (b .directions) d .into)
 
 -- ---- the verdict
 

@@ -1,7 +1,7 @@
 // Offers. No call has a `requires`: each promise is an equation with the rules, whatever the cells hold.
 ghost use mathlib.Core.Path.{_≡_};
 ghost use mathlib.Core.Bool.{_||_};
-ghost use Prim.Native.Nat.{_+_, _<_, _≤_};
+ghost use Prim.Native.Nat.{_+_, _<_};
 ghost use lib.Dec.{ltb};
 ghost use lib.ListN.{getD};
 ghost use Rattle.rules.specs.Windows.{latest, offerOutside};
@@ -50,7 +50,7 @@ fn direction_verdict(book: &Book, time: u32, direction: u8, hour: Hour, mw: u16)
     if answers::is_early(book, time) {
         return Verdict::No(Answer::Clock);
     }
-    if left::direction_hour_unknown(book, direction, hour) {
+    if answers::direction_hour_unknown(book, direction, hour) {
         return Verdict::No(Answer::Unknown);
     }
     let model = tables::model_of(book, direction);
@@ -72,7 +72,7 @@ fn profile_verdict(book: &Book, time: u32, profile: u8, hour: Hour, mw: u16) -> 
     if answers::is_early(book, time) {
         return Verdict::No(Answer::Clock);
     }
-    if left::profile_hour_unknown(book, profile, hour) {
+    if answers::profile_hour_unknown(book, profile, hour) {
         return Verdict::No(Answer::Unknown);
     }
     if outside(book, 1, hour, time) {

@@ -323,7 +323,7 @@ fn match_line(line: &[u8]) -> Found {
     walk(table, line, chosen(table, line))
 }
 
-// What a line asks for, whether it was opened before or not.
+// What a line asks for; `opened` says whether a day was opened before it.
 pub fn read(line: &[u8], opened: bool) -> Found {
     if rehearse_text::LONGEST < line.len() {
         return begun(LONG, KINDS, 0);

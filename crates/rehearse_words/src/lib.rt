@@ -1,4 +1,4 @@
-// What is said of a line: the numbers of its answer and these in words, or why it has none.
+// What is said of a line: the numbers of its answer and these in words, or why it has none; the printing of it, and the count of lines.
 mod forms;
 
 use forms::hours_of;
@@ -21,11 +21,11 @@ use std::num::wrapping_sub_u64;
 
 // ---- a line that is answered
 
-// The number of this refusal.
+// The number of the refusal short.
 const SHORT: u64 = 15;
 
 // The numbers that the words name. Of a shortage the profile is one less than its number; of a nomination they are the hours above the right.
-fn told(kind: usize, mut numbers: Numbers) -> Numbers {
+fn numbers_named(kind: usize, mut numbers: Numbers) -> Numbers {
     let number = number_at(numbers, 0);
     if number == 0 && kind == rehearse_lines::NOMINATE {
         return hours_of(number_at(numbers, 1));
@@ -36,7 +36,7 @@ fn told(kind: usize, mut numbers: Numbers) -> Numbers {
     numbers
 }
 
-fn granted(kind: usize, numbers: Numbers) -> usize {
+fn form_of_grant(kind: usize, numbers: Numbers) -> usize {
     let detail = number_at(numbers, 1);
     if kind == rehearse_lines::NOMINATE {
         return wrapping_add_usize(forms::ABOVE, hours_of(detail).count);
@@ -51,7 +51,7 @@ fn granted(kind: usize, numbers: Numbers) -> usize {
 fn form_of(kind: usize, numbers: Numbers) -> usize {
     let number = number_at(numbers, 0);
     if number == 0 {
-        return granted(kind, numbers);
+        return form_of_grant(kind, numbers);
     }
     if number == SHORT && number_at(numbers, 2) != 0 {
         return forms::SHORT_OF_PROFILE;
@@ -69,7 +69,12 @@ fn differs(found: Found, numbers: Numbers) -> bool {
 fn put_answer(text: &mut Text, at: usize, found: Found, numbers: Numbers) -> usize {
     let row = say(text, at, numbers.count, numbers);
     let kind = found.kind;
-    let end = say(text, row, form_of(kind, numbers), told(kind, numbers));
+    let end = say(
+        text,
+        row,
+        form_of(kind, numbers),
+        numbers_named(kind, numbers),
+    );
     if differs(found, numbers) {
         return say(text, end, forms::DIFFERS, numbers);
     }

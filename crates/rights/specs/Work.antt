@@ -8,7 +8,6 @@ use lib.Dec.{eqb, leb}
 use lib.ListN.{length}
 use Rattle.rules.specs.Book.{Right, rightLimit}
 use Rattle.rules.specs.Bids.{isRightOf, withRight, rightNumber}
-use Rattle.rules.specs.declared.Answer.{Answer}
 use Rattle.cells.specs.Layout.{CELLS, RIGHTS}
 use Rattle.cells.specs.Search.{firstRow}
 use Rattle.cells.specs.declared.Found.{Found}
@@ -16,7 +15,6 @@ use Rattle.cells.specs.declared.Found.the-variants.{At, Nothing}
 use Rattle.cells.specs.View.{counted, rightAt, bookOf, Cells}
 use Rattle.stores.specs.Stores.{withRow}
 use Rattle.cells.specs.Updates.{withRights}
-use Rattle.answers.specs.declared.RightRead.{RightRead}
 use Rattle.rights.specs.declared.Entry.{Entry}
 use Rattle.rights.specs.declared.Entry.the-variants.{Full, Room, Standing}
 
@@ -66,9 +64,3 @@ pub record Booked (b : List ℕ) (model h d s : ℕ) (mw : List ℕ) (n : ℕ) (
   pub count : length b′ ≡ CELLS
   pub number-is : n ≡ rightNumber model h d s (bookOf b .rights)
   pub book-is : bookOf b′ ≡ withRights (bookOf b) (withRight model h d s mw (bookOf b .rights))
-
--- ---- the read of a right
-
--- a right as its read answers it
-abbrev pub readOf : Answer → Right → RightRead
-readOf a x = record { answer = a; holder = x .holder; direction = x .direction; session = record { 0 = x .session }; mw = x .mw }

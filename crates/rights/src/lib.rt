@@ -1,17 +1,13 @@
-// The table of rights: the standing right of a holder, direction and session, new rights, and the read of a right.
+// The table of rights: the standing right of a holder, direction and session, and new rights.
 ghost use mathlib.Core.Path.{_≡_};
 ghost use Prim.Native.Nat.{_<_};
 ghost use Rattle.rules.specs.Book.{rightLimit};
 ghost use Rattle.rules.specs.Bids.{isRightOf};
-ghost use Rattle.rules.specs.declared.Answer.the-variants.{Granted};
 ghost use Rattle.cells.specs.Layout.{RIGHTS};
 ghost use Rattle.cells.specs.View.{counted, rightAt};
-ghost use Rattle.answers.specs.Promises.{ReadsRight};
-ghost use Rattle.rights.specs.Work.{standingRight, rightFor, entryIn, Enters, NewRight, Booked, readOf};
-use answers::RightRead;
+ghost use Rattle.rights.specs.Work.{standingRight, rightFor, entryIn, Enters, NewRight, Booked};
 use cells::Book;
 use cells::Found;
-use rules::Answer;
 use rules::Session;
 
 // What a bid finds in the table of rights: no room for it, room for a right more, or in a full table the right that takes its MW.
@@ -135,42 +131,4 @@ pub fn book_right(
     };
     capacity::add_five(book, cells::RIGHTS + 4 + i as usize * 8, mw);
     i
-}
-
-// ---- the read of a right
-
-// A right that is there.
-fn right_there(book: &Book, right: u16) -> RightRead
-    requires { ⌜ right < rightLimit ⌝ }
-    ensures { λ r. ⌜ r ≡ readOf (Granted 0) (rightAt (now (book .entry)) right) ⌝ }
-{
-    let at = cells::RIGHTS + 4 + right as usize * 8;
-    RightRead {
-        answer: Answer::Granted(0),
-        holder: tables::right_holder(book, right),
-        direction: tables::right_direction(book, right),
-        session: tables::right_session(book, right),
-        mw: [
-            book[at],
-            book[at + 1],
-            book[at + 2],
-            book[at + 3],
-            book[at + 4],
-        ],
-    }
-}
-
-pub fn right_at(book: &Book, right: u16) -> RightRead
-    ensures { λ r. ⌜ ReadsRight (now (book .entry)) right r ⌝ }
-{
-    if cells::count_in(book, cells::RIGHTS, cells::RIGHT_LIMIT) <= right as u32 {
-        return RightRead {
-            answer: Answer::Unknown,
-            holder: 0,
-            direction: 0,
-            session: Session(0),
-            mw: [0; 5],
-        };
-    }
-    right_there(book, right)
 }

@@ -1,6 +1,6 @@
 -- `nominations::in_party` meets its contract.
 -- Assumes nothing.
-use Rattle.nominations.proofs.Tests.{party-first, party-second}
+use Rattle.nominations.proofs.Parties.{party-first, party-second}
 use Rattle.nominations.proofs.in_party.Statement.{statement}
 use Rattle.nominations.proofs.in_party.Tie as tie
 

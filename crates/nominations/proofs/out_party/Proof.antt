@@ -1,6 +1,6 @@
 -- `nominations::out_party` meets its contract.
 -- Assumes nothing.
-use Rattle.nominations.proofs.Tests.{party-first, party-second}
+use Rattle.nominations.proofs.Parties.{party-first, party-second}
 use Rattle.nominations.proofs.out_party.Statement.{statement}
 use Rattle.nominations.proofs.out_party.Tie as tie
 

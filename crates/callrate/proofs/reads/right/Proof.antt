@@ -1,3 +1,5 @@
+-- `callrate::reads::right` is safe and ends.
+-- Assumes nothing.
 use borrow.Author.Needs.{needs}
 use Prim.Native.Nat.{_≤_, _-_}
 use Rattle.callrate.proofs.reads.right.Statement.{statement}

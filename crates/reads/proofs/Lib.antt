@@ -1,0 +1,2 @@
+pub mod LeftReads
+pub mod RightReads
