@@ -59,7 +59,7 @@ fn right_there(book: &Book, right: u16) -> RightRead
 {
     let at = cells::RIGHTS + 4 + right as usize * 8;
     RightRead {
-        answer: Answer::Granted(0),
+        answer: Answer::Granted(0), // with no detail
         holder: tables::right_holder(book, right),
         direction: tables::right_direction(book, right),
         session: tables::right_session(book, right),
