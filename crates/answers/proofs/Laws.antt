@@ -1,7 +1,7 @@
 -- From the tests of a call to its verdict, and from the verdict to the promise of the call.
 -- Assumes nothing.
 use Prim.Native.Nat.{ℕ}
-use mathlib.Core.Path.{_≡_, refl, sym, _∙_}
+use mathlib.Core.Path.{_≡_, refl, sym, ap, _∙_}
 use mathlib.Core.Bool.{Bool, true, false, _||_, true≢false}
 use mathlib.Core.List.{List, [], _∷_}
 use lib.Dec.{eqb}
@@ -9,11 +9,13 @@ use borrow.Author.Tests.{eq-eqb}
 use Rattle.rules.specs.Book.{Book}
 use Rattle.rules.specs.Calls.{Call}
 use Rattle.rules.specs.Said.{said}
-use Rattle.rules.specs.Refusals.{firstOf, refuses, number}
+use Rattle.rules.specs.Refusals.{firstOf, timingOf, tooEarly, tooLate, refuses, number}
 use Rattle.rules.specs.Effects.{effect}
 use Rattle.rules.specs.Details.{detail, refusal}
 use Rattle.rules.specs.Run.{applied}
 use Rattle.rules.specs.declared.Answer.{Answer}
+use Rattle.rules.specs.declared.Answer.the-variants.{TooEarly, TooLate}
+use Rattle.rules.specs.declared.Timing.the-variants.{Early, Within, Late}
 use Rattle.cells.specs.View.{bookOf}
 use Rattle.answers.specs.declared.Verdict.the-variants.{Clear, No}
 use Rattle.answers.specs.Promises.{Answers, Judged}
@@ -59,6 +61,19 @@ pub refuse : {b : Book} {c : Call} {n : ℕ} {ns : List ℕ} (a : Answer) → Le
     → said a ≡ refusal b c n → Judged b c (No a)
 unfolding firstOf
 refuse a l e z s = rw (l .number-is, e) (z, s)
+
+-- the window of a call decides on 16 and 8, and clears both
+pub too-early : {b : Book} {c : Call} {ns : List ℕ} → Left b c (16 ∷ 8 ∷ ns) → timingOf b c ≡ Early → Judged b c (No TooEarly)
+unfolding refuses refusal
+too-early l e = refuse TooEarly l (ap tooEarly e) refl refl
+
+pub too-late : {b : Book} {c : Call} {ns : List ℕ} → Left b c (16 ∷ 8 ∷ ns) → timingOf b c ≡ Late → Judged b c (No TooLate)
+unfolding refuses refusal
+too-late l e = refuse TooLate (pass l (ap tooEarly e)) (ap tooLate e) refl refl
+
+pub in-window : {b : Book} {c : Call} {ns : List ℕ} → Left b c (16 ∷ 8 ∷ ns) → timingOf b c ≡ Within → Left b c ns
+unfolding refuses
+in-window l e = pass (pass l (ap tooEarly e)) (ap tooLate e)
 
 pub none-left : {b : Book} {c : Call} → Left b c [] → Judged b c Clear
 unfolding firstOf

@@ -43,7 +43,7 @@ pub struct ConfirmedRead {
 // ---- tests that several calls share
 
 // Earlier than the latest granted timed call.
-pub fn is_early(book: &Book, time: u32) -> bool
+pub fn before_clock(book: &Book, time: u32) -> bool
     ensures { λ r. ⌜ r ≡ ltb time (bookOf (now (book .entry)) .clock) ⌝ }
 {
     time < cells::clock(book)
@@ -128,7 +128,8 @@ pub fn numbers(answer: Answer) -> ReplyNumbers
         Answer::Clock => refused(5),
         Answer::Unknown => refused(6),
         Answer::Taken => refused(7),
-        Answer::Gate => refused(8),
+        Answer::TooEarly => refused(16),
+        Answer::TooLate => refused(8),
         Answer::Hours => refused(9),
         Answer::Access => refused(10),
         Answer::Owner => refused(11),

@@ -105,7 +105,7 @@ fn bid_verdict(
     if bid_field(time, mw) {
         return BidVerdict::No(Answer::Field);
     }
-    if answers::is_early(book, time) {
+    if answers::before_clock(book, time) {
         return BidVerdict::No(Answer::Clock);
     }
     if bid_unknown(book, party, direction, session) {

@@ -17,7 +17,7 @@ use Rattle.cells.proofs.Views.{known-direction, model-at, hours-within}
 use Rattle.answers.proofs.Laws.{Left}
 
 -- the numbers that can apply to a matching
-pub match-left : (b : Book) (t d s : ℕ) → Left b (Match t d s) (3 ∷ 5 ∷ 6 ∷ 8 ∷ 12 ∷ [])
+pub match-left : (b : Book) (t d s : ℕ) → Left b (Match t d s) (3 ∷ 5 ∷ 6 ∷ 16 ∷ 8 ∷ 12 ∷ [])
 unfolding firstOf order refuses setupShut taken wrongHours noAccess notOwner full below shortageOf
 match-left b t d s = record { number-is = refl }
 

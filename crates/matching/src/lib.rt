@@ -3,7 +3,7 @@ ghost use mathlib.Core.Path.{_≡_};
 ghost use mathlib.Core.Bool.{_||_};
 ghost use Prim.Native.Nat.{_<_};
 ghost use lib.Dec.{ltb};
-ghost use Rattle.rules.specs.Windows.{latest, matchingOutside};
+ghost use Rattle.rules.specs.Windows.{latest, matchingTiming};
 ghost use Rattle.rules.specs.Book.{rightLimit};
 ghost use Rattle.rules.specs.Calls.{Match};
 ghost use Rattle.rules.specs.Nominations.{countRights};
@@ -15,6 +15,7 @@ use answers::Verdict;
 use cells::Book;
 use rules::Answer;
 use rules::Session;
+use rules::Timing;
 
 // ---- tests
 
@@ -35,13 +36,13 @@ fn match_unknown(book: &Book, direction: u8, session: Session) -> bool
     !day::session_there(hours, model, session)
 }
 
-// Before matching opens.
-fn outside(book: &Book, model: u32, session: Session, time: u32) -> bool
-    ensures { λ r. ⌜ r ≡ matchingOutside (bookOf (now (book .entry)) .hours) (bookOf (now (book .entry)) .weekday) model (session .0) time ⌝ }
+// Where the time stands to the session's matching.
+fn timing(book: &Book, model: u32, session: Session, time: u32) -> Timing
+    ensures { λ r. ⌜ r ≡ matchingTiming (bookOf (now (book .entry)) .hours) (bookOf (now (book .entry)) .weekday) model (session .0) time ⌝ }
 {
     let hours = cells::hours(book);
     let weekday = cells::weekday(book);
-    windows::matching_outside(hours, weekday, model, session, time)
+    windows::matching_timing(hours, weekday, model, session, time)
 }
 
 fn match_verdict(book: &Book, time: u32, direction: u8, session: Session) -> Verdict
@@ -50,15 +51,17 @@ fn match_verdict(book: &Book, time: u32, direction: u8, session: Session) -> Ver
     if match_field(time) {
         return Verdict::No(Answer::Field);
     }
-    if answers::is_early(book, time) {
+    if answers::before_clock(book, time) {
         return Verdict::No(Answer::Clock);
     }
     if match_unknown(book, direction, session) {
         return Verdict::No(Answer::Unknown);
     }
     let model = tables::model_of(book, direction);
-    if outside(book, model, session, time) {
-        return Verdict::No(Answer::Gate);
+    match timing(book, model, session, time) {
+        Timing::Early => return Verdict::No(Answer::TooEarly),
+        Timing::Late => return Verdict::No(Answer::TooLate),
+        Timing::Within => {}
     }
     if tables::is_matched(book, direction, session) {
         return Verdict::No(Answer::Cycle);

@@ -60,7 +60,7 @@ fn nomination_verdict(
     if nomination_tests::nomination_field(time, side, mw) {
         return NominationVerdict::No(Answer::Field);
     }
-    if answers::is_early(book, time) {
+    if answers::before_clock(book, time) {
         return NominationVerdict::No(Answer::Clock);
     }
     if nomination_tests::nomination_unknown(book, sender, other, right) {

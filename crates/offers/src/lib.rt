@@ -47,7 +47,7 @@ fn direction_verdict(book: &Book, time: u32, direction: u8, hour: Hour, mw: u16)
     if offer_field(time, mw) {
         return Verdict::No(Answer::Field);
     }
-    if answers::is_early(book, time) {
+    if answers::before_clock(book, time) {
         return Verdict::No(Answer::Clock);
     }
     if answers::direction_hour_unknown(book, direction, hour) {
@@ -69,7 +69,7 @@ fn profile_verdict(book: &Book, time: u32, profile: u8, hour: Hour, mw: u16) -> 
     if offer_field(time, mw) {
         return Verdict::No(Answer::Field);
     }
-    if answers::is_early(book, time) {
+    if answers::before_clock(book, time) {
         return Verdict::No(Answer::Clock);
     }
     if answers::profile_hour_unknown(book, profile, hour) {

@@ -1,12 +1,12 @@
 -- Demand 1, and what a grant says of each condition.
 -- Assumes nothing.
-use Prim.Native.Nat.{ℕ, zero, suc, _+_, _≤_, _<_}
+use Prim.Native.Nat.{ℕ, zero, suc}
 use mathlib.Core.Path.{_≡_, refl, sym, subst}
-use mathlib.Core.Bool.{Bool, true, false, _||_, _&&_, not, true≢false}
+use mathlib.Core.Bool.{Bool, true, false, _||_, _&&_, not, true≢false, or-true}
 use mathlib.Core.List.{List, [], _∷_, _++_}
 use native.Mathlib.Omega.{arith}
-use lib.Dec.{T, eqb, leb}
-use borrow.Author.Tests.{eqb-true, eqb-false, leb-true, leb-false}
+use lib.Dec.{T, eqb}
+use borrow.Author.Tests.{eqb-true, eqb-false, eq-eqb}
 use Rattle.rules.specs.Basics.{has}
 use Rattle.rules.specs.Book.{Book}
 use Rattle.rules.specs.Calls.{Call, isGrant}
@@ -16,7 +16,7 @@ use Rattle.rules.specs.Run.{applied}
 use Rattle.rules.specs.Opening.{openingRefuses, opening}
 use Rattle.rules.specs.Reads.{directionReadRefuses, readDirection, profileReadRefuses, readProfile, rightReadRefuses, readRight, confirmedReadRefuses, readConfirmed}
 use Rattle.rules.specs.Records.{writerRefuses, writing, readerRefuses, reading}
-use Rattle.rules.specs.Demand1.{highest, None, upFrom, Lowest, granting, refusing, Demand1}
+use Rattle.rules.specs.Demand1.{None, listed, EachOnce, First, granting, refusing, Demand1}
 use Rattle.rules.specs.declared.CallRecord.{CallRecord}
 
 -- what is not 0 is a number whose condition holds
@@ -29,43 +29,6 @@ refused-so f (m ∷ ms) n e z = go (f m) refl (λ k. refused-so f ms n k z)
     go true p rest = subst (λ (k : ℕ). f k ≡ true) (rw p at e) p
     go false p rest = rest (rw p at e)
 
--- ---- the first of 1, 2, .. whose condition holds is the lowest
-
--- no number below the one found has a condition that holds, and none at all where 0 was found
-lower-fail : (f : ℕ → Bool) (n k r m : ℕ) → 1 ≤ k → firstOf f (upFrom k n) ≡ r → k ≤ m → m < k + n → (1 ≤ r → m < r) → f m ≡ false
-unfolding firstOf
-lower-fail f zero k r m one e a u l = absurd (omega arith)
-lower-fail f (suc n) k r m one e a u l = go (f k) refl (leb m k) refl (λ g b. lower-fail f n (suc k) r m (omega arith) g b (omega arith) l)
-  where
-    go : (t : Bool) → f k ≡ t → (s : Bool) → leb m k ≡ s → (firstOf f (upFrom (suc k) n) ≡ r → suc k ≤ m → f m ≡ false) → f m ≡ false
-    go true p s q rest = let g : k ≡ r = rw p at e in absurd (omega (arith, l (omega arith)))
-    go false p true q rest = let g : m ≡ k = omega (arith, leb-true m k q) in rw g p
-    go false p false q rest = rest (rw p at e) (omega (arith, leb-false m k q))
-
--- a number that is found is one of them
-found-among : (f : ℕ → Bool) (n k r : ℕ) → firstOf f (upFrom k n) ≡ r → 1 ≤ r → (k ≤ r) × (r < k + n)
-unfolding firstOf
-found-among f zero k r e l = absurd (omega arith)
-found-among f (suc n) k r e l = go (f k) refl (λ g. found-among f n (suc k) r g l)
-  where
-    go : (t : Bool) → f k ≡ t → (firstOf f (upFrom (suc k) n) ≡ r → (suc k ≤ r) × (r < suc k + n)) → (k ≤ r) × (r < k + suc n)
-    go true p rest = let g : k ≡ r = rw p at e in (omega arith, omega arith)
-    go false p rest = let g = rest (rw p at e) in (omega arith, omega arith)
-
-in-order : order ≡ upFrom 1 highest
-unfolding order
-in-order = refl
-
-pub lowest : (f : ℕ → Bool) → Lowest f (firstOf f order)
-lowest f = rw in-order (go (firstOf f (upFrom 1 highest)) refl)
-  where
-    go : (r : ℕ) → firstOf f (upFrom 1 highest) ≡ r → Lowest f r
-    go zero e = granting (λ m a u. lower-fail f highest 1 0 m (omega arith) e a (omega arith) (λ l. absurd (omega arith)))
-    go (suc r) e =
-        let g = found-among f highest 1 (suc r) e (omega arith) in
-        refusing (suc r) (omega arith) (omega arith) (refused-so f (upFrom 1 highest) (suc r) e (λ z. omega arith))
-        (λ m a l. lower-fail f highest 1 (suc r) m (omega arith) e a (omega arith) (λ s. l))
-
 -- and those before it don't
 pub passed : (f : ℕ → Bool) (ns : List ℕ) (n : ℕ) → firstOf f ns ≡ n → None f (before n ns)
 unfolding firstOf before
@@ -77,11 +40,51 @@ passed f (m ∷ ms) n e = go (f m) refl (eqb m n) refl (λ k. passed f ms n k)
     go true p false q rest = absurd (eqb-false m n q (rw p at e))
     go false p false q rest = rw q (p, rest (rw p at e))
 
+-- it is one of them
+found-among : (f : ℕ → Bool) (ns : List ℕ) (n : ℕ) → firstOf f ns ≡ n → (n ≡ 0 → ⊥) → has n ns ≡ true
+unfolding firstOf has
+found-among f [] n e z = absurd (z (sym e))
+found-among f (m ∷ ms) n e z = go (f m) refl (λ k. found-among f ms n k z)
+  where
+    go : (t : Bool) → f m ≡ t → (firstOf f ms ≡ n → has n ms ≡ true) → has n (m ∷ ms) ≡ true
+    go true p rest = rw (eq-eqb m n (rw p at e))
+    go false p rest = rw (rest (rw p at e), or-true (eqb m n))
+
+-- where 0 was found, no condition holds
+abbrev positive : List ℕ → Bool
+positive [] = true
+positive (n ∷ ns) = not (eqb n 0) && positive ns
+
+clear : (f : ℕ → Bool) (ns : List ℕ) → T (positive ns) → firstOf f ns ≡ 0 → None f ns
+unfolding firstOf
+clear f [] t e = tt
+clear f (n ∷ ns) t e = go (f n) refl (eqb n 0) refl (λ s k. clear f ns s k)
+  where
+    go : (x : Bool) → f n ≡ x → (z : Bool) → eqb n 0 ≡ z → (T (positive ns) → firstOf f ns ≡ 0 → None f ns) → (f n ≡ false) × None f ns
+    go x p true q rest = absurd (rw q at t)
+    go true p false q rest = absurd (eqb-false n 0 q (rw p at e))
+    go false p false q rest = (p, rest (rw q at t) (rw p at e))
+
 -- numbers whose conditions fail may be left out in front
 pub none-before : (f : ℕ → Bool) (ms ns : List ℕ) → None f ms → firstOf f (ms ++ ns) ≡ firstOf f ns
 unfolding firstOf
 none-before f [] ns h = refl
 none-before f (m ∷ ms) ns h = rw (h .0) (none-before f ms ns (h .1))
+
+in-order : order ≡ listed
+unfolding order
+in-order = refl
+
+each-once : EachOnce listed
+unfolding has
+each-once = (refl, (refl, (refl, (refl, (refl, (refl, (refl, (refl, (refl, (refl, (refl, (refl, (refl, (refl, (refl, (refl, tt))))))))))))))))
+
+first : (f : ℕ → Bool) → First f (firstOf f order)
+first f = rw in-order (go (firstOf f listed) refl)
+  where
+    go : (n : ℕ) → firstOf f listed ≡ n → First f n
+    go zero e = granting (clear f listed tt e)
+    go (suc n) e = refusing (suc n) (found-among f listed (suc n) e (λ z. omega arith)) (refused-so f listed (suc n) e (λ z. omega arith)) (passed f listed (suc n) e)
 
 pub applied-number : (b : Book) (c : Call) → applied b c .reply .number ≡ number b c
 unfolding applied refusal
@@ -108,15 +111,16 @@ unfolding opening readDirection readProfile readRight readConfirmed reading writ
 demand1 =
     record {
       in-order = in-order;
-      calls = λ b c. rw (applied-number b c) (lowest (refuses b c));
+      each-once = each-once;
+      calls = λ b c. rw (applied-number b c) (first (refuses b c));
       calls-kept = applied-kept;
-      openings = λ n day. (lowest (openingRefuses n day), (refl, refl));
-      left-of-directions = λ b d hour. (lowest (directionReadRefuses b d hour), (refl, refl));
-      left-of-profiles = λ b p hour. (lowest (profileReadRefuses b p hour), (refl, refl));
-      rights = λ b r. (lowest (rightReadRefuses b r), (refl, refl));
-      confirmed = λ b r o i. (lowest (confirmedReadRefuses b r o i), (refl, refl));
-      readers = λ s. (lowest (readerRefuses s), (refl, refl));
-      writers = λ c buffer. lowest (writerRefuses c buffer);
+      openings = λ n day. (first (openingRefuses n day), (refl, refl));
+      left-of-directions = λ b d hour. (first (directionReadRefuses b d hour), (refl, refl));
+      left-of-profiles = λ b p hour. (first (profileReadRefuses b p hour), (refl, refl));
+      rights = λ b r. (first (rightReadRefuses b r), (refl, refl));
+      confirmed = λ b r o i. (first (confirmedReadRefuses b r o i), (refl, refl));
+      readers = λ s. (first (readerRefuses s), (refl, refl));
+      writers = λ c buffer. first (writerRefuses c buffer);
       writers-kept = writing-kept;
     }
 
@@ -138,20 +142,6 @@ at f n (m ∷ ms) h t = go (eqb m n) refl t (λ s. at f n ms (h .1) s)
 -- the condition n fails where the call is granted; where `order` and `has` unfold, `tt` shows that n is in it
 pub fails : {b : Book} {c : Call} → Granted b c → (n : ℕ) → T (has n order) → refuses b c n ≡ false
 fails {b} {c} g n t = at (refuses b c) n order (g .none) t
-
-abbrev positive : List ℕ → Bool
-positive [] = true
-positive (n ∷ ns) = not (eqb n 0) && positive ns
-
-clear : (f : ℕ → Bool) (ns : List ℕ) → T (positive ns) → firstOf f ns ≡ 0 → None f ns
-unfolding firstOf
-clear f [] t e = tt
-clear f (n ∷ ns) t e = go (f n) refl (eqb n 0) refl (λ s k. clear f ns s k)
-  where
-    go : (x : Bool) → f n ≡ x → (z : Bool) → eqb n 0 ≡ z → (T (positive ns) → firstOf f ns ≡ 0 → None f ns) → (f n ≡ false) × None f ns
-    go x p true q rest = absurd (rw q at t)
-    go true p false q rest = absurd (eqb-false n 0 q (rw p at e))
-    go false p false q rest = (p, rest (rw q at t) (rw p at e))
 
 pub is-granted : (b : Book) (c : Call) → eqb (number b c) 0 ≡ true → Granted b c
 unfolding order

@@ -7,6 +7,7 @@ pub mod Shortages
 pub mod Books
 pub mod Capacity
 pub mod Sessions
+pub mod Timings
 pub mod RightsFit
 pub mod Rights
 pub mod Pairs

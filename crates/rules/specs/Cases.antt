@@ -1,12 +1,12 @@
--- 01, Cases: those marked M, as one table of what the definitions compute and what 01 says. Yes is 1 and no is 0.
+-- 01, Cases: those marked M, and those of 02, as one table of what the definitions compute and what the papers say. Yes is 1 and no is 0.
 -- Assumes nothing.
 use Prim.Native.Nat.{ℕ, _+_, _-_, _%_}
 use mathlib.Core.Path.{_≡_}
-use mathlib.Core.Bool.{Bool, cond, not}
+use mathlib.Core.Bool.{Bool, cond}
 use mathlib.Core.List.{List, [], _∷_, _++_, map}
 use lib.ListN.{getD}
 use Rattle.rules.specs.Sessions.{firstHour, hoursIn}
-use Rattle.rules.specs.Windows.{bidsClose, bidOutside}
+use Rattle.rules.specs.Windows.{bidsClose, bidTiming}
 use Rattle.rules.specs.Codes.{charValue, weightedSum, isCode}
 use Rattle.rules.specs.Calls.{Call, AddDirection, AddProfile, AddParty, OfferDirection, OfferProfile, Bid, Nominate, Match, Reply}
 use Rattle.rules.specs.Run.{Run, run}
@@ -14,6 +14,8 @@ use Rattle.rules.specs.Opening.{opening}
 use Rattle.rules.specs.Reads.{readDirection, readConfirmed}
 use Rattle.rules.specs.Records.{recordOf, reading, fieldsOf, callOf}
 use Rattle.rules.specs.declared.CallRecord.{CallRecord}
+use Rattle.rules.specs.declared.Timing.{Timing}
+use Rattle.rules.specs.declared.Timing.the-variants.{Early, Within, Late}
 
 pub record Case : Type 0 where
   pub computed : List ℕ
@@ -38,9 +40,15 @@ numbersOf (r ∷ rs) = r .number ∷ r .first ∷ r .second ∷ numbersOf rs
 abbrev hoursOf : ℕ → ℕ → List ℕ
 hoursOf n session = firstHour n 4 session ∷ (firstHour n 4 session + hoursIn n 4 session - 1) ∷ []
 
--- on a day of 24 hours with a weekday, a bid at a minute is inside the window of a session of the one-hour model
-abbrev isIn : ℕ → ℕ → ℕ → ℕ
-isIn session minute weekday = yes-no (not (bidOutside 24 weekday 1 session minute))
+-- 0 within the window, or the number that refuses
+abbrev refusedBy : Timing → ℕ
+refusedBy Early = 16
+refusedBy Within = 0
+refusedBy Late = 8
+
+-- for a bid at a minute in a session of the one-hour model, on a day of 24 hours with a weekday
+abbrev bidAt : ℕ → ℕ → ℕ → ℕ
+bidAt session minute weekday = refusedBy (bidTiming 24 weekday 1 session minute)
 
 -- every weekday but Wednesday, and but Tuesday
 abbrev noWednesday : List ℕ
@@ -80,6 +88,21 @@ due code = 36 - (weightedSum code - 1) % 37
 -- one-hour MW
 abbrev one : ℕ → List ℕ
 one mw = mw ∷ 0 ∷ 0 ∷ 0 ∷ 0 ∷ []
+
+-- of 10 MW in hour 1 a minute before the hold; in hours 1 and 2 in its first minute, its last and after it
+abbrev wednesdayHold : List Call
+wednesdayHold =
+    AddDirection 0 4 1 ∷ AddParty ceps 1 ∷ OfferDirection 1000 0 1 100 ∷ OfferDirection 1000 0 2 100 ∷ Bid 1169 0 0 1 (one 10)
+    ∷ Bid 1170 0 0 1 (one 10) ∷ Bid 1170 0 0 2 (one 10) ∷ Bid 1289 0 0 1 (one 10) ∷ Bid 1289 0 0 2 (one 10)
+    ∷ Bid 1290 0 0 1 (one 10) ∷ Bid 1290 0 0 2 (one 10) ∷ []
+
+-- party 1 has no access; the bids at 1,079 ask 60, 101 and 0 MW and 60 by party 1, then 101 and 0 MW and 60 by party 1 again at 1,080
+abbrev earlyAndLate : List Call
+earlyAndLate =
+    AddDirection 0 4 1 ∷ AddParty ceps 1 ∷ AddParty (uni 86) 2 ∷ OfferDirection 959 0 1 100 ∷ OfferDirection 960 0 1 100
+    ∷ Bid 1079 0 0 1 (one 60) ∷ Bid 1079 0 0 1 (one 101) ∷ Bid 1079 0 0 1 (one 0) ∷ Bid 1079 1 0 1 (one 60)
+    ∷ Bid 1080 0 0 1 (one 101) ∷ Bid 1080 0 0 1 (one 0) ∷ Bid 1080 1 0 1 (one 60)
+    ∷ Bid 1289 0 0 1 (one 60) ∷ Bid 1290 0 0 1 (one 10) ∷ Bid 1079 0 0 1 (one 10) ∷ []
 
 abbrev fourHours : List Call
 fourHours =
@@ -133,13 +156,26 @@ cases =
     ∷ record { computed = hoursOf 25 1 ++ hoursOf 25 2; said = 1 ∷ 5 ∷ 6 ∷ 9 ∷ [] }
     -- N = 23: session 6 is 20-23
     ∷ record { computed = hoursOf 23 6; said = 20 ∷ 23 ∷ [] }
-    -- one-hour model, no Wednesday: for hour 1 a bid at 1,080 and 1,289 is in, at 1,079 and 1,290 out
-    ∷ record { computed = map (isIn 1 1080) noWednesday ++ map (isIn 1 1289) noWednesday; said = sixTimes 1 ++ sixTimes 1 }
-    ∷ record { computed = map (isIn 1 1079) noWednesday ++ map (isIn 1 1290) noWednesday; said = sixTimes 0 ++ sixTimes 0 }
+    -- one-hour model, no Wednesday: for hour 1 a bid at 1,080 and 1,289 is in, at 1,079 too early and at 1,290 too late
+    ∷ record { computed = map (bidAt 1 1080) noWednesday ++ map (bidAt 1 1289) noWednesday; said = sixTimes 0 ++ sixTimes 0 }
+    ∷ record { computed = map (bidAt 1 1079) noWednesday ++ map (bidAt 1 1290) noWednesday; said = sixTimes 16 ++ sixTimes 8 }
     -- same model: hour 24 closes for bids at 2,670, on Tuesday at 2,490
     ∷ record { computed = map (λ (w : ℕ). bidsClose w 1 24) noTuesday ++ (bidsClose 2 1 24 ∷ []); said = sixTimes 2670 ++ (2490 ∷ []) }
-    ∷ record { computed = map (isIn 24 2669) noTuesday ++ (isIn 24 2489 2 ∷ []); said = sixTimes 1 ++ (1 ∷ []) }
-    ∷ record { computed = map (isIn 24 2670) noTuesday ++ (isIn 24 2490 2 ∷ []); said = sixTimes 0 ++ (0 ∷ []) }
+    ∷ record { computed = map (bidAt 24 2669) noTuesday ++ (bidAt 24 2489 2 ∷ []); said = sixTimes 0 ++ (0 ∷ []) }
+    ∷ record { computed = map (bidAt 24 2670) noTuesday ++ (bidAt 24 2490 2 ∷ []); said = sixTimes 8 ++ (8 ∷ []) }
+    -- 02, S-1: a bid in the Wednesday hold is too early, for hour 1 and for a later one; at its end hour 1 is too late
+    ∷ record {
+      computed = numbersOf (run (opening 24 3 .book) wednesdayHold .replies);
+      said = 0 ∷ 0 ∷ 0 ∷ 0 ∷ 0 ∷ 0 ∷ 0 ∷ 100 ∷ 0 ∷ 0 ∷ 100 ∷ 0 ∷ 0 ∷ 0 ∷ 0 ∷ 16 ∷ 0 ∷ 0 ∷ 16 ∷ 0 ∷ 0 ∷ 16 ∷ 0 ∷ 0 ∷ 16 ∷ 0 ∷ 0 ∷ 8 ∷ 0 ∷ 0 ∷ 0 ∷ 1 ∷ 0 ∷ [];
+    }
+    -- an offer at 959 is too early; so is a bid at 1,079, also where it is short, all zero or without access; at 1,290 it is too late, and then 5 comes before 16
+    ∷ record {
+      computed = numbersOf (monday earlyAndLate .replies);
+      said =
+          0 ∷ 0 ∷ 0 ∷ 0 ∷ 0 ∷ 0 ∷ 0 ∷ 1 ∷ 0 ∷ 16 ∷ 0 ∷ 0 ∷ 0 ∷ 100 ∷ 0
+          ∷ 16 ∷ 0 ∷ 0 ∷ 16 ∷ 0 ∷ 0 ∷ 16 ∷ 0 ∷ 0 ∷ 16 ∷ 0 ∷ 0
+          ∷ 15 ∷ 1 ∷ 0 ∷ 9 ∷ 0 ∷ 0 ∷ 10 ∷ 0 ∷ 0 ∷ 0 ∷ 0 ∷ 0 ∷ 8 ∷ 0 ∷ 0 ∷ 5 ∷ 0 ∷ 0 ∷ [];
+    }
     -- the record of a bid, and the call read from it
     ∷ record { computed = recordOf bidRecord; said = bidBytes }
     ∷ record { computed = reading bidBytes .reply .number ∷ reading bidBytes .length ∷ fieldsOf (reading bidBytes .call); said = 0 ∷ 10 ∷ fieldsOf bidRecord }
@@ -158,7 +194,7 @@ cases =
     ∷ record { computed = readConfirmed (monday twoPairs .book) 0 0 0 .mw ++ readConfirmed (monday twoPairs .book) 0 0 1 .mw; said = one 60 ++ one 40 }
     ∷ record {
       computed = numbersOf (monday twoPairs .replies);
-      said = 0 ∷ 0 ∷ 0 ∷ 0 ∷ 0 ∷ 0 ∷ 0 ∷ 1 ∷ 0 ∷ 0 ∷ 100 ∷ 0 ∷ 0 ∷ 0 ∷ 0 ∷ 0 ∷ 0 ∷ 0 ∷ 0 ∷ 0 ∷ 0 ∷ 0 ∷ 1 ∷ 0 ∷ 0 ∷ 1 ∷ 0 ∷ 8 ∷ 0 ∷ 0 ∷ 0 ∷ 1 ∷ 0 ∷ [];
+      said = 0 ∷ 0 ∷ 0 ∷ 0 ∷ 0 ∷ 0 ∷ 0 ∷ 1 ∷ 0 ∷ 0 ∷ 100 ∷ 0 ∷ 0 ∷ 0 ∷ 0 ∷ 0 ∷ 0 ∷ 0 ∷ 0 ∷ 0 ∷ 0 ∷ 0 ∷ 1 ∷ 0 ∷ 0 ∷ 1 ∷ 0 ∷ 16 ∷ 0 ∷ 0 ∷ 0 ∷ 1 ∷ 0 ∷ [];
     }
     -- right 100: m 50, 50, 50 give 33 each
     ∷ record {

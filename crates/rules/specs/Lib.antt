@@ -19,4 +19,5 @@ pub mod History
 pub mod Demand1
 pub mod Demand3
 pub mod Shortages
+pub mod Timings
 pub mod Cases

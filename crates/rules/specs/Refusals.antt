@@ -2,26 +2,28 @@
 -- A number that cannot apply to a call is false there. The opening, the reads and the records use `order` and `firstOf` too.
 -- Assumes nothing.
 use Prim.Native.Nat.{ℕ, _+_, _-_, _^_}
-use mathlib.Core.Bool.{Bool, false, cond, _||_, _&&_, not}
+use mathlib.Core.Bool.{Bool, true, false, cond, _||_, _&&_, not}
 use mathlib.Core.List.{List, [], _∷_}
 use lib.Dec.{leb, ltb, eqb}
 use lib.ListN.{length, getD, drop}
 use lib.Count.{ones}
 use Rattle.rules.specs.Basics.{bit, anyAbove}
 use Rattle.rules.specs.Sessions.{sessionThere, firstHour, hoursIn}
-use Rattle.rules.specs.Windows.{latest, bidOutside, nominationOutside, offerOutside, matchingOutside}
+use Rattle.rules.specs.Windows.{latest, bidTiming, nominationTiming, offerTiming, matchingTiming}
 use Rattle.rules.specs.Codes.{isCode}
 use Rattle.rules.specs.Book.{Direction, Right, Book, place, flag, ofProfile, direction, party, right, modelOf, directionLimit, pairLimit, partyLimit, profileLimit, rightLimit}
 use Rattle.rules.specs.Calls.{Call, AddDirection, AddProfile, AddParty, OfferDirection, OfferProfile, Bid, Nominate, Match}
 use Rattle.rules.specs.Setup.{directionTaken, codeTaken}
 use Rattle.rules.specs.Bids.{Shortage, nothingShort, isShort, shortage, rightTaken}
 use Rattle.rules.specs.Nominations.{outOf, intoOf, pairTaken}
+use Rattle.rules.specs.declared.Timing.{Timing}
+use Rattle.rules.specs.declared.Timing.the-variants.{Early, Within, Late}
 
 -- ---- the order
 
--- the order in which the conditions are asked: 1 to 15
+-- the order in which the conditions are asked: 16 stands in the place of 8 (02, S-1)
 unfoldable pub order : List ℕ
-order = 1 ∷ 2 ∷ 3 ∷ 4 ∷ 5 ∷ 6 ∷ 7 ∷ 8 ∷ 9 ∷ 10 ∷ 11 ∷ 12 ∷ 13 ∷ 14 ∷ 15 ∷ []
+order = 1 ∷ 2 ∷ 3 ∷ 4 ∷ 5 ∷ 6 ∷ 7 ∷ 16 ∷ 8 ∷ 9 ∷ 10 ∷ 11 ∷ 12 ∷ 13 ∷ 14 ∷ 15 ∷ []
 
 -- the numbers before n
 unfoldable pub before : ℕ → List ℕ → List ℕ
@@ -112,20 +114,30 @@ taken b (Bid time p d session mw) = false
 taken b (Nominate time sender other r side mw) = false
 taken b (Match time d session) = false
 
--- ---- 8 gate
+-- ---- 16 too early, 8 too late
 
--- of a nomination: the direction and session of its right
-unfoldable pub gate : Book → Call → Bool
-gate b (AddDirection o i m) = false
-gate b (AddProfile map) = false
-gate b (AddParty code access) = false
-gate b (OfferDirection time d hour mw) = offerOutside (b .hours) (b .weekday) (modelOf b d) hour time
-gate b (OfferProfile time p hour mw) = offerOutside (b .hours) (b .weekday) 1 hour time
-gate b (Bid time p d session mw) = bidOutside (b .hours) (b .weekday) (modelOf b d) session time
-gate b (Nominate time sender other r side mw) =
+-- where the time of a call stands to its window; set-up has none. Of a nomination: the direction and session of its right
+unfoldable pub timingOf : Book → Call → Timing
+timingOf b (AddDirection o i m) = Within
+timingOf b (AddProfile map) = Within
+timingOf b (AddParty code access) = Within
+timingOf b (OfferDirection time d hour mw) = offerTiming (b .hours) (b .weekday) (modelOf b d) hour time
+timingOf b (OfferProfile time p hour mw) = offerTiming (b .hours) (b .weekday) 1 hour time
+timingOf b (Bid time p d session mw) = bidTiming (b .hours) (b .weekday) (modelOf b d) session time
+timingOf b (Nominate time sender other r side mw) =
     let x : Right = right (b .rights) r in
-    nominationOutside (b .hours) (b .weekday) (modelOf b (x .direction)) (x .session) time
-gate b (Match time d session) = matchingOutside (b .hours) (b .weekday) (modelOf b d) session time
+    nominationTiming (b .hours) (b .weekday) (modelOf b (x .direction)) (x .session) time
+timingOf b (Match time d session) = matchingTiming (b .hours) (b .weekday) (modelOf b d) session time
+
+abbrev pub tooEarly : Timing → Bool
+tooEarly Early = true
+tooEarly Within = false
+tooEarly Late = false
+
+abbrev pub tooLate : Timing → Bool
+tooLate Early = false
+tooLate Within = false
+tooLate Late = true
 
 -- ---- 9 hours
 
@@ -243,14 +255,15 @@ refuses b c n =
     cond (eqb n 5) (clock b c) (
     cond (eqb n 6) (unknown b c) (
     cond (eqb n 7) (taken b c) (
-    cond (eqb n 8) (gate b c) (
+    cond (eqb n 16) (tooEarly (timingOf b c)) (
+    cond (eqb n 8) (tooLate (timingOf b c)) (
     cond (eqb n 9) (wrongHours b c) (
     cond (eqb n 10) (noAccess b c) (
     cond (eqb n 11) (notOwner b c) (
     cond (eqb n 12) (cycle b c) (
     cond (eqb n 13) (full b c) (
     cond (eqb n 14) (below b c) (
-    cond (eqb n 15) (isShort (shortageOf b c)) false))))))))))))
+    cond (eqb n 15) (isShort (shortageOf b c)) false)))))))))))))
 
 -- the number of the reply: 0, or the first in the order whose condition holds
 abbrev pub number : Book → Call → ℕ

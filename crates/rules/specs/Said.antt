@@ -5,7 +5,7 @@ use Rattle.rules.specs.Calls.{Reply, noDetails}
 use Rattle.rules.specs.declared.CapacityOf.{CapacityOf}
 use Rattle.rules.specs.declared.CapacityOf.the-variants.{Direction, Profile}
 use Rattle.rules.specs.declared.Answer.{Answer}
-use Rattle.rules.specs.declared.Answer.the-variants.{Granted, Record, Day, Field, SetupShut, Clock, Unknown, Taken, Gate, Hours, Access, Owner, Cycle, Full, Below, Short}
+use Rattle.rules.specs.declared.Answer.the-variants.{Granted, Record, Day, Field, SetupShut, Clock, Unknown, Taken, TooEarly, TooLate, Hours, Access, Owner, Cycle, Full, Below, Short}
 use Rattle.rules.specs.declared.ReplyNumbers.{ReplyNumbers}
 
 -- 0 for the direction, or 1 + the profile's number
@@ -23,7 +23,8 @@ said SetupShut = noDetails 4
 said Clock = noDetails 5
 said Unknown = noDetails 6
 said Taken = noDetails 7
-said Gate = noDetails 8
+said TooEarly = noDetails 16
+said TooLate = noDetails 8
 said Hours = noDetails 9
 said Access = noDetails 10
 said Owner = noDetails 11

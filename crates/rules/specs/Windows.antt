@@ -1,17 +1,19 @@
 -- 01, Day and clock, and the windows of Sessions: minutes from 24 hours before the day begins. No other file of these rules has a minute in it.
 -- Assumes nothing.
 use Prim.Native.Nat.{ℕ, _+_, _*_}
-use mathlib.Core.Bool.{Bool, cond, _||_, _&&_, not}
+use mathlib.Core.Bool.{Bool, cond, _&&_}
 use lib.Dec.{leb, ltb, eqb}
 use Rattle.rules.specs.Sessions.{firstHour, sessionOf}
+use Rattle.rules.specs.declared.Timing.{Timing}
+use Rattle.rules.specs.declared.Timing.the-variants.{Early, Within, Late}
 
 -- the latest time that a call may have
 abbrev pub latest : ℕ
 latest = 2999
 
--- a window holds its first minute and not its last
-unfoldable pub within : ℕ → ℕ → ℕ → Bool
-within opens closes time = leb opens time && ltb time closes
+-- where a time stands to a window, which holds its first minute and not its last
+unfoldable pub timing : ℕ → ℕ → ℕ → Timing
+timing opens closes time = cond (ltb time opens) Early (cond (ltb time closes) Within Late)
 
 -- on a Tuesday the one-hour sessions 22, 23 and 24 close, and open for matching, as session 21 does
 unfoldable pub gateHour : ℕ → ℕ → ℕ → ℕ
@@ -37,25 +39,24 @@ matchingOpens weekday model hour = 1335 + 60 * gateHour weekday model hour
 
 -- a Wednesday book grants no bid from 1,170 up to and not at 1,290
 unfoldable pub held : ℕ → ℕ → Bool
-held weekday time = eqb weekday 3 && within 1170 1290 time
+held weekday time = eqb weekday 3 && leb 1170 time && ltb time 1290
 
--- ---- the time is outside the window, of a day with n hours and a weekday (Monday 1 to Sunday 7)
+-- ---- each window, of a day with n hours and a weekday (Monday 1 to Sunday 7)
 
--- of the session's bids, or in the Wednesday hold
-unfoldable pub bidOutside : ℕ → ℕ → ℕ → ℕ → ℕ → Bool
-bidOutside n weekday model session time =
-    not (within (opens model (firstHour n model session)) (bidsClose weekday model (firstHour n model session)) time) || held weekday time
+-- the session's bids; a bid in the Wednesday hold is early (02, S-1)
+unfoldable pub bidTiming : ℕ → ℕ → ℕ → ℕ → ℕ → Timing
+bidTiming n weekday model session time =
+    cond (held weekday time) Early (timing (opens model (firstHour n model session)) (bidsClose weekday model (firstHour n model session)) time)
 
--- of the session's nominations
-unfoldable pub nominationOutside : ℕ → ℕ → ℕ → ℕ → ℕ → Bool
-nominationOutside n weekday model session time =
-    not (within (opens model (firstHour n model session)) (nominationsClose weekday model (firstHour n model session)) time)
+-- the session's nominations
+unfoldable pub nominationTiming : ℕ → ℕ → ℕ → ℕ → ℕ → Timing
+nominationTiming n weekday model session time =
+    timing (opens model (firstHour n model session)) (nominationsClose weekday model (firstHour n model session)) time
 
--- of the offers for an hour: to the close of bids of the session that holds it; for a profile the model is 1
-unfoldable pub offerOutside : ℕ → ℕ → ℕ → ℕ → ℕ → Bool
-offerOutside n weekday model hour time =
-    not (within offersOpen (bidsClose weekday model (firstHour n model (sessionOf n model hour))) time)
+-- the offers for an hour, to the close of bids of the session that holds it; for a profile the model is 1
+unfoldable pub offerTiming : ℕ → ℕ → ℕ → ℕ → ℕ → Timing
+offerTiming n weekday model hour time = timing offersOpen (bidsClose weekday model (firstHour n model (sessionOf n model hour))) time
 
--- of the session's matching
-unfoldable pub matchingOutside : ℕ → ℕ → ℕ → ℕ → ℕ → Bool
-matchingOutside n weekday model session time = ltb time (matchingOpens weekday model (firstHour n model session))
+-- the session's matching, which is never late
+unfoldable pub matchingTiming : ℕ → ℕ → ℕ → ℕ → ℕ → Timing
+matchingTiming n weekday model session time = cond (ltb time (matchingOpens weekday model (firstHour n model session))) Early Within

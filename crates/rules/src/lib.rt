@@ -14,13 +14,20 @@ pub struct Session(pub u8);
 // An hour's position in the day, from 1.
 pub struct Hour(pub u8);
 
+// Where a time stands to a window: before its opening, within it, at or after its end.
+pub enum Timing {
+    Early,
+    Within,
+    Late,
+}
+
 // What is short in an hour: the bid's direction, or a profile that holds it, by number.
 pub enum CapacityOf {
     Direction,
     Profile(u8),
 }
 
-// The answer to a call: granted with its detail, or the refusal by its trade word.
+// The answer to a call: granted with its detail, or the refusal by its trade word, in the order in which they are asked.
 pub enum Answer {
     Granted(u32),
     Record,
@@ -30,7 +37,8 @@ pub enum Answer {
     Clock,
     Unknown,
     Taken,
-    Gate,
+    TooEarly,
+    TooLate,
     Hours,
     Access,
     Owner,

@@ -1,13 +1,17 @@
-// The windows of bids, nominations, offers and matchings. No public function has a `requires`: each answers for any numbers, as the rules do.
+// Where a time stands to the windows of bids, nominations, offers and matchings: one function for each. No public function has a `requires`: each answers for any numbers, as the rules do.
 use rules::Hour;
 use rules::Session;
+use rules::Timing;
 ghost use mathlib.Core.Path.{_≡_};
-ghost use mathlib.Core.Bool.{not};
 ghost use Prim.Native.Nat.{_+_, _*_, _≤_};
 ghost use Rattle.rules.specs.Sessions.{firstHour};
-ghost use Rattle.rules.specs.Windows.{within, gateHour, opens, held, bidOutside, nominationOutside, offerOutside, matchingOutside};
+ghost use Rattle.rules.specs.Windows.{timing, gateHour, opens, held, bidTiming, nominationTiming, offerTiming, matchingTiming};
 
 const OFFERS_OPEN: u32 = 960;
+
+const HOLD_BEGINS: u32 = 1170;
+
+const HOLD_ENDS: u32 = 1290;
 
 // The gates of hour 0: those of a later hour are 60 minutes an hour later.
 const BIDS_CLOSE: u32 = 1230;
@@ -16,11 +20,17 @@ const NOMINATIONS_CLOSE: u32 = 1290;
 
 const MATCHING_OPENS: u32 = 1335;
 
-// From the opening on, and no longer at the close.
-fn is_within(opening: u32, closing: u32, time: u32) -> bool
-    ensures { λ r. ⌜ r ≡ within opening closing time ⌝ }
+// A window holds the minute at which it opens and not the one at which it closes.
+fn time_in(opening: u32, closing: u32, time: u32) -> Timing
+    ensures { λ r. ⌜ r ≡ timing opening closing time ⌝ }
 {
-    opening <= time && time < closing
+    if time < opening {
+        return Timing::Early;
+    }
+    if time < closing {
+        return Timing::Within;
+    }
+    Timing::Late
 }
 
 // The hour whose gates hold: on a Tuesday the one-hour sessions after 21 take those of 21.
@@ -58,55 +68,66 @@ fn session_opens(model: u32, hour: u32) -> u32
     1020 + 60 * hour
 }
 
-// Outside the session's window for bids or for nominations, which close at `minute` for hour 0.
-fn session_outside(
+// The session's window for bids or for nominations, which close at `minute` for hour 0.
+fn session_timing(
     hours: u8,
     weekday: u32,
     model: u32,
     session: Session,
     minute: u32,
     time: u32,
-) -> bool
+) -> Timing
     requires { ⌜ minute ≤ 1335 ⌝ }
-    ensures { λ r. ⌜ r ≡ not (within (opens model (firstHour hours model (session .0))) (minute + 60 * gateHour weekday model (firstHour hours model (session .0))) time) ⌝ }
+    ensures { λ r. ⌜ r ≡ timing (opens model (firstHour hours model (session .0))) (minute + 60 * gateHour weekday model (firstHour hours model (session .0))) time ⌝ }
 {
     let first = day::first_number(hours, model, session);
     let opening = session_opens(model, first);
     let closing = gate_time(minute, weekday, model, first);
-    !is_within(opening, closing, time)
+    time_in(opening, closing, time)
 }
 
 // The hold on the bids of a Wednesday book.
 fn is_held(weekday: u32, time: u32) -> bool
     ensures { λ r. ⌜ r ≡ held weekday time ⌝ }
 {
-    weekday == 3 && is_within(1170, 1290, time)
+    if weekday != 3 {
+        return false;
+    }
+    HOLD_BEGINS <= time && time < HOLD_ENDS
 }
 
-pub fn bid_outside(hours: u8, weekday: u32, model: u32, session: Session, time: u32) -> bool
-    ensures { λ r. ⌜ r ≡ bidOutside hours weekday model (session .0) time ⌝ }
+// A bid in the hold is early.
+pub fn bid_timing(hours: u8, weekday: u32, model: u32, session: Session, time: u32) -> Timing
+    ensures { λ r. ⌜ r ≡ bidTiming hours weekday model (session .0) time ⌝ }
 {
-    is_held(weekday, time) || session_outside(hours, weekday, model, session, BIDS_CLOSE, time)
+    if is_held(weekday, time) {
+        return Timing::Early;
+    }
+    session_timing(hours, weekday, model, session, BIDS_CLOSE, time)
 }
 
-pub fn nomination_outside(hours: u8, weekday: u32, model: u32, session: Session, time: u32) -> bool
-    ensures { λ r. ⌜ r ≡ nominationOutside hours weekday model (session .0) time ⌝ }
+pub fn nomination_timing(hours: u8, weekday: u32, model: u32, session: Session, time: u32) -> Timing
+    ensures { λ r. ⌜ r ≡ nominationTiming hours weekday model (session .0) time ⌝ }
 {
-    session_outside(hours, weekday, model, session, NOMINATIONS_CLOSE, time)
+    session_timing(hours, weekday, model, session, NOMINATIONS_CLOSE, time)
 }
 
 // Offers close with the bids of the session that holds the hour.
-pub fn offer_outside(hours: u8, weekday: u32, model: u32, hour: Hour, time: u32) -> bool
-    ensures { λ r. ⌜ r ≡ offerOutside hours weekday model (hour .0) time ⌝ }
+pub fn offer_timing(hours: u8, weekday: u32, model: u32, hour: Hour, time: u32) -> Timing
+    ensures { λ r. ⌜ r ≡ offerTiming hours weekday model (hour .0) time ⌝ }
 {
     let first = day::first_number(hours, model, day::session_of(hours, model, hour));
     let closing = gate_time(BIDS_CLOSE, weekday, model, first);
-    !is_within(OFFERS_OPEN, closing, time)
+    time_in(OFFERS_OPEN, closing, time)
 }
 
-pub fn matching_outside(hours: u8, weekday: u32, model: u32, session: Session, time: u32) -> bool
-    ensures { λ r. ⌜ r ≡ matchingOutside hours weekday model (session .0) time ⌝ }
+// A matching is never late.
+pub fn matching_timing(hours: u8, weekday: u32, model: u32, session: Session, time: u32) -> Timing
+    ensures { λ r. ⌜ r ≡ matchingTiming hours weekday model (session .0) time ⌝ }
 {
     let first = day::first_number(hours, model, session);
-    time < gate_time(MATCHING_OPENS, weekday, model, first)
+    if time < gate_time(MATCHING_OPENS, weekday, model, first) {
+        return Timing::Early;
+    }
+    Timing::Within
 }

@@ -2,15 +2,15 @@
 -- Assumes nothing.
 use borrow.Author.Needs.{needs}
 use Prim.Native.Nat.{ℕ}
-use mathlib.Core.Path.{_≡_, refl}
+use mathlib.Core.Path.{_≡_, refl, sym, _∙_}
 use mathlib.Core.List.{List, [], _∷_}
 use denote.Ref.{now}
 use Rattle.rules.specs.Calls.{Match}
-use Rattle.rules.specs.Refusals.{refuses, field, clock, unknown, gate, cycle}
+use Rattle.rules.specs.Refusals.{refuses, field, clock, unknown, timingOf, cycle}
 use Rattle.rules.specs.Details.{refusal}
-use Rattle.rules.specs.declared.Answer.the-variants.{Field, Clock, Unknown, Gate, Cycle}
+use Rattle.rules.specs.declared.Answer.the-variants.{Field, Clock, Unknown, Cycle}
 use Rattle.cells.specs.View.{bookOf}
-use Rattle.answers.proofs.Laws.{Left, pass, refuse, none-left, told}
+use Rattle.answers.proofs.Laws.{Left, pass, refuse, too-early, too-late, in-window, none-left, told}
 use Rattle.matching.proofs.Tests.{match-left, KnownMatch, known-match}
 use Rattle.matching.proofs.match_verdict.Statement.{statement}
 use Rattle.matching.proofs.match_verdict.Tie as tie
@@ -19,18 +19,18 @@ use Rattle.matching.proofs.match_verdict.Tie as tie
 abbrev To : tie.Start → List ℕ → Type 0
 To s ns = Left (bookOf (now (s .args .book))) (Match (s .args .time) (s .args .direction) (s .args .session .0)) ns
 
-start : (c : tie.Start) → To c (3 ∷ 5 ∷ 6 ∷ 8 ∷ 12 ∷ [])
+start : (c : tie.Start) → To c (3 ∷ 5 ∷ 6 ∷ 16 ∷ 8 ∷ 12 ∷ [])
 start c = match-left _ _ _ _
 
-after1 : (c : tie.Else1) → To (c .before .before) (5 ∷ 6 ∷ 8 ∷ 12 ∷ [])
+after1 : (c : tie.Else1) → To (c .before .before) (5 ∷ 6 ∷ 16 ∷ 8 ∷ 12 ∷ [])
 unfolding refuses field
 after1 c = pass (start (c .before .before)) (told (c .before .match-field .ensures) (c .if1 .left))
 
-after2 : (c : tie.Else2) → To (c .before .before .before .before) (6 ∷ 8 ∷ 12 ∷ [])
+after2 : (c : tie.Else2) → To (c .before .before .before .before) (6 ∷ 16 ∷ 8 ∷ 12 ∷ [])
 unfolding refuses clock
-after2 c = pass (after1 (c .before .before)) (told (c .before .is-early .ensures) (c .if2 .left))
+after2 c = pass (after1 (c .before .before)) (told (c .before .before-clock .ensures) (c .if2 .left))
 
-after3 : (c : tie.Else3) → To (c .before .before .before .before .before .before) (8 ∷ 12 ∷ [])
+after3 : (c : tie.Else3) → To (c .before .before .before .before .before .before) (16 ∷ 8 ∷ 12 ∷ [])
 unfolding refuses unknown
 after3 c = pass (after2 (c .before .before)) (told (c .before .match-unknown .ensures) (c .if3 .left))
 
@@ -38,12 +38,13 @@ after3 c = pass (after2 (c .before .before)) (told (c .before .match-unknown .en
 knows : (c : tie.Else3) → let a = c .before .before .before .before .before .before .args in KnownMatch (now (a .book)) (a .direction) (a .session .0)
 knows c = known-match _ _ _ (told (c .before .match-unknown .ensures) (c .if3 .left))
 
--- the model read from the cells is that of the rules
-after4 : (c : tie.Else4) → To (c .before .before .before .before .before .before .before .before .before) (12 ∷ [])
-unfolding refuses gate
-after4 c =
-    let m = c .before .before in
-    pass (after3 (m .before)) (rw (knows (m .before) .model-is, ← m .model-of .ensures) (told (c .before .outside .ensures) (c .if4 .left)))
+-- the window, by the model read from the cells, says what the rules do
+timing-is : (c : tie.After-timing) → let a = c .before .before .before .before .before .before .before .before .args in timingOf (bookOf (now (a .book))) (Match (a .time) (a .direction) (a .session .0)) ≡ c .timing .result
+unfolding timingOf
+timing-is c = rw (knows (c .before .before) .model-is, ← c .before .model-of .ensures) (sym (c .timing .ensures))
+
+after4 : (c : tie.After-enum-told3) → To (c .before .before .before .before .before .before .before .before .before .before) (12 ∷ [])
+after4 c = in-window (after3 (c .before .before .before .before)) (timing-is (c .before .before) ∙ c .enum-told3 .given .1)
 
 returns : tie.Need-returns
 unfolding refuses field refusal
@@ -51,25 +52,25 @@ returns c = refuse Field (start (c .before .before)) (told (c .before .match-fie
 
 returns-2 : tie.Need-returns-2
 unfolding refuses clock refusal
-returns-2 c = refuse Clock (after1 (c .before .before)) (told (c .before .is-early .ensures) (c .if2 .taken)) refl refl
+returns-2 c = refuse Clock (after1 (c .before .before)) (told (c .before .before-clock .ensures) (c .if2 .taken)) refl refl
 
 returns-3 : tie.Need-returns-3
 unfolding refuses unknown refusal
 returns-3 c = refuse Unknown (after2 (c .before .before)) (told (c .before .match-unknown .ensures) (c .if3 .taken)) refl refl
 
 returns-4 : tie.Need-returns-4
-unfolding refuses gate refusal
-returns-4 c =
-    let m = c .before .before in
-    refuse Gate (after3 (m .before)) (rw (knows (m .before) .model-is, ← m .model-of .ensures) (told (c .before .outside .ensures) (c .if4 .taken))) refl refl
+returns-4 c = too-early (after3 (c .before .before .before .before)) (timing-is (c .before .before) ∙ c .enum-told .given .1)
 
 returns-5 : tie.Need-returns-5
-unfolding refuses cycle refusal
-returns-5 c = refuse Cycle (after4 (c .before .before)) (told (c .before .is-matched .ensures) (c .if5 .taken)) refl refl
+returns-5 c = too-late (after3 (c .before .before .before .before)) (timing-is (c .before .before) ∙ c .enum-told2 .given .1)
 
 returns-6 : tie.Need-returns-6
+unfolding refuses cycle refusal
+returns-6 c = refuse Cycle (after4 (c .before .before)) (told (c .before .is-matched .ensures) (c .if4 .taken)) refl refl
+
+returns-7 : tie.Need-returns-7
 unfolding refuses cycle
-returns-6 c = none-left (pass (after4 (c .before .before)) (told (c .before .is-matched .ensures) (c .if5 .left)))
+returns-7 c = none-left (pass (after4 (c .before .before)) (told (c .before .is-matched .ensures) (c .if4 .left)))
 
 pub match-verdict-spec : {M : Type 1} → statement M
 match-verdict-spec =
@@ -83,7 +84,11 @@ match-verdict-spec =
     returns-3
     (λ c κs. knows c .direction)
     (λ c κs. search needs)
+    (λ c. search needs)
     returns-4
-    (λ c κs. search needs)
+    (λ c. search needs)
     returns-5
-    returns-6)
+    (λ c. search needs)
+    (λ c κs. search needs)
+    returns-6
+    returns-7)
