@@ -36,7 +36,7 @@ use Rattle.rights.specs.Work.{Enters}
 use Rattle.bids.specs.Work.{JudgedBid, Session-known, Searched}
 
 -- the numbers that can apply to a bid
-pub bid-left : (b : Book) (t p d s : ℕ) (mw : List ℕ) → Left b (Bid t p d s mw) (3 ∷ 5 ∷ 6 ∷ 8 ∷ 9 ∷ 10 ∷ 13 ∷ 15 ∷ [])
+pub bid-left : (b : Book) (t p d s : ℕ) (mw : List ℕ) → Left b (Bid t p d s mw) (3 ∷ 5 ∷ 6 ∷ 16 ∷ 8 ∷ 9 ∷ 10 ∷ 13 ∷ 15 ∷ [])
 unfolding firstOf order refuses setupShut taken notOwner cycle below
 bid-left b t p d s mw = record { number-is = refl }
 

@@ -6,7 +6,7 @@ ghost use lib.Dec.{ltb};
 ghost use lib.ListN.{drop};
 ghost use Rattle.rules.specs.Basics.{bit, anyAbove};
 ghost use Rattle.rules.specs.Sessions.{hoursIn};
-ghost use Rattle.rules.specs.Windows.{latest, bidOutside};
+ghost use Rattle.rules.specs.Windows.{latest, bidTiming};
 ghost use Rattle.rules.specs.Book.{directionLimit, partyLimit};
 ghost use Rattle.rules.specs.Calls.{Bid};
 ghost use Rattle.rules.specs.Refusals.{partyUnknown, directionUnknown, sessionUnknown};
@@ -19,6 +19,7 @@ use cells::Book;
 use rights::Entry;
 use rules::Answer;
 use rules::Session;
+use rules::Timing;
 
 // What the tests of a bid find: nothing against it, with its entry, or the refusal.
 enum BidVerdict {
@@ -49,12 +50,13 @@ fn bid_unknown(book: &Book, party: u8, direction: u8, session: Session) -> bool
     !day::session_there(hours, model, session)
 }
 
-fn outside(book: &Book, model: u32, session: Session, time: u32) -> bool
-    ensures { λ r. ⌜ r ≡ bidOutside (bookOf (now (book .entry)) .hours) (bookOf (now (book .entry)) .weekday) model (session .0) time ⌝ }
+// Where the time stands to the session's bids.
+fn timing(book: &Book, model: u32, session: Session, time: u32) -> Timing
+    ensures { λ r. ⌜ r ≡ bidTiming (bookOf (now (book .entry)) .hours) (bookOf (now (book .entry)) .weekday) model (session .0) time ⌝ }
 {
     let hours = cells::hours(book);
     let weekday = cells::weekday(book);
-    windows::bid_outside(hours, weekday, model, session, time)
+    windows::bid_timing(hours, weekday, model, session, time)
 }
 
 // MW for an hour that the session lacks, or none at all.
@@ -112,8 +114,10 @@ fn bid_verdict(
         return BidVerdict::No(Answer::Unknown);
     }
     let model = tables::model_of(book, direction);
-    if outside(book, model, session, time) {
-        return BidVerdict::No(Answer::Gate);
+    match timing(book, model, session, time) {
+        Timing::Early => return BidVerdict::No(Answer::TooEarly),
+        Timing::Late => return BidVerdict::No(Answer::TooLate),
+        Timing::Within => {}
     }
     if wrong_hours(book, model, session, mw) {
         return BidVerdict::No(Answer::Hours);

@@ -10,9 +10,10 @@ use lib.ListN.{length, drop, List·getD-eq-default}
 use borrow.Author.Tests.{leb-true, eq-eqb, ne-eqb}
 use Rattle.rules.specs.Basics.{bit, anyAbove}
 use Rattle.rules.specs.Sessions.{hoursIn}
-use Rattle.rules.specs.Windows.{nominationOutside}
+use Rattle.rules.specs.Windows.{nominationTiming}
 use Rattle.rules.specs.Book.{Direction, Right, direction, party, modelOf, directionLimit, partyLimit, rightLimit}
 use Rattle.rules.specs.Refusals.{directionUnknown, rightUnknown, hoursLacking}
+use Rattle.rules.specs.declared.Timing.{Timing}
 use Rattle.cells.specs.Layout.{DIRECTIONS, PARTIES, RIGHTS}
 use Rattle.cells.specs.View.{cell, counted, dayHoursIn, weekdayIn, directionAt, rightAt, bookOf}
 use Rattle.cells.proofs.Views.{access-at, direction-at, right-count, right-at}
@@ -55,10 +56,10 @@ module _ (b : List ℕ) (r : ℕ) (l : r < counted b RIGHTS rightLimit) where
   holder-is : (h : ℕ) → h ≡ rightAt b r .holder → h ≡ rightHolder (bookOf b) r
   holder-is h e = e ∙ ap (λ (x : Right). x .holder) (sym (right-at b r l))
 
-  pub outside-is : (n w m s t : ℕ) (x : Bool) → n ≡ dayHoursIn b → w ≡ weekdayIn b → m ≡ modelOf (bookOf b) (rightDirection (bookOf b) r) → s ≡ rightAt b r .session
-      → x ≡ nominationOutside n w m s t → x ≡ nominationOutside (bookOf b .hours) (bookOf b .weekday) (modelOf (bookOf b) (rightDirection (bookOf b) r)) (rightSession (bookOf b) r) t
+  pub timing-is : (n w m s t : ℕ) (x : Timing) → n ≡ dayHoursIn b → w ≡ weekdayIn b → m ≡ modelOf (bookOf b) (rightDirection (bookOf b) r) → s ≡ rightAt b r .session
+      → x ≡ nominationTiming n w m s t → x ≡ nominationTiming (bookOf b .hours) (bookOf b .weekday) (modelOf (bookOf b) (rightDirection (bookOf b) r)) (rightSession (bookOf b) r) t
   unfolding bookOf
-  outside-is n w m s t x p q u v e = e ∙ rw (p, q, u, session-is s v)
+  timing-is n w m s t x p q u v e = e ∙ rw (p, q, u, session-is s v)
 
   pub lacking-is : (n m s k : ℕ) (mw : List ℕ) (x : Bool) → n ≡ dayHoursIn b → m ≡ modelOf (bookOf b) (rightDirection (bookOf b) r) → s ≡ rightAt b r .session → k ≡ hoursIn n m s
       → x ≡ anyAbove 0 (drop k mw) → x ≡ hoursLacking (bookOf b) (rightDirection (bookOf b) r) (rightSession (bookOf b) r) mw

@@ -4,13 +4,14 @@ ghost use mathlib.Core.Bool.{_||_, not};
 ghost use Prim.Native.Nat.{_<_};
 ghost use lib.Dec.{ltb, eqb};
 ghost use Rattle.rules.specs.Basics.{bit, anyAbove};
-ghost use Rattle.rules.specs.Windows.{latest, nominationOutside};
+ghost use Rattle.rules.specs.Windows.{latest, nominationTiming};
 ghost use Rattle.rules.specs.Book.{party, modelOf, partyLimit, rightLimit};
 ghost use Rattle.rules.specs.Refusals.{partyUnknown, rightUnknown, hoursLacking};
 ghost use Rattle.cells.specs.Layout.{PARTIES, RIGHTS};
 ghost use Rattle.cells.specs.View.{bookOf, counted};
 ghost use Rattle.nomination_tests.specs.Rights.{rightHolder, rightDirection, rightSession, operatorOf};
 use cells::Book;
+use rules::Timing;
 
 // ---- the direction of a right: it may be none that is there, and is then read as zeros
 
@@ -68,16 +69,16 @@ pub fn nomination_unknown(book: &Book, sender: u8, other: u8, right: u16) -> boo
     cells::count_in(book, cells::RIGHTS, cells::RIGHT_LIMIT) <= right as u32
 }
 
-// Outside the window of the right's session.
-pub fn outside(book: &Book, right: u16, time: u32) -> bool
+// Where the time stands to the nominations of the right's session.
+pub fn timing(book: &Book, right: u16, time: u32) -> Timing
     requires { ⌜ right < counted (now book) RIGHTS rightLimit ⌝ }
-    ensures { λ r. ⌜ r ≡ nominationOutside (bookOf (now (book .entry)) .hours) (bookOf (now (book .entry)) .weekday) (modelOf (bookOf (now (book .entry))) (rightDirection (bookOf (now (book .entry))) right)) (rightSession (bookOf (now (book .entry))) right) time ⌝ }
+    ensures { λ r. ⌜ r ≡ nominationTiming (bookOf (now (book .entry)) .hours) (bookOf (now (book .entry)) .weekday) (modelOf (bookOf (now (book .entry))) (rightDirection (bookOf (now (book .entry))) right)) (rightSession (bookOf (now (book .entry))) right) time ⌝ }
 {
     let hours = cells::hours(book);
     let weekday = cells::weekday(book);
     let model = right_model(book, right);
     let session = tables::right_session(book, right);
-    windows::nomination_outside(hours, weekday, model, session, time)
+    windows::nomination_timing(hours, weekday, model, session, time)
 }
 
 // MW for an hour that the right's session lacks.

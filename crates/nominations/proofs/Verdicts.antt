@@ -16,7 +16,7 @@ use Rattle.cells.proofs.Views.{party-count, right-count}
 use Rattle.answers.proofs.Laws.{Left}
 
 -- the numbers that can apply to a nomination
-pub nomination-left : (b : Book) (t p o r side : ℕ) (mw : List ℕ) → Left b (Nominate t p o r side mw) (3 ∷ 5 ∷ 6 ∷ 8 ∷ 9 ∷ 10 ∷ 11 ∷ 13 ∷ [])
+pub nomination-left : (b : Book) (t p o r side : ℕ) (mw : List ℕ) → Left b (Nominate t p o r side mw) (3 ∷ 5 ∷ 6 ∷ 16 ∷ 8 ∷ 9 ∷ 10 ∷ 11 ∷ 13 ∷ [])
 unfolding firstOf order refuses setupShut taken cycle below shortageOf
 nomination-left b t p o r side mw = record { number-is = refl }
 

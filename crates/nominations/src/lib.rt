@@ -8,6 +8,7 @@ ghost use Rattle.nominations.specs.Work.{Cleared, JudgedNomination, Plac
 use cells::Book;
 use cells::Found;
 use rules::Answer;
+use rules::Timing;
 
 // What the tests of a nomination find: nothing against it, with what the search for its pair found, or the refusal.
 enum NominationVerdict {
@@ -66,8 +67,10 @@ fn nomination_verdict(
     if nomination_tests::nomination_unknown(book, sender, other, right) {
         return NominationVerdict::No(Answer::Unknown);
     }
-    if nomination_tests::outside(book, right, time) {
-        return NominationVerdict::No(Answer::Gate);
+    match nomination_tests::timing(book, right, time) {
+        Timing::Early => return NominationVerdict::No(Answer::TooEarly),
+        Timing::Late => return NominationVerdict::No(Answer::TooLate),
+        Timing::Within => {}
     }
     if nomination_tests::lacking_hours(book, right, mw) {
         return NominationVerdict::No(Answer::Hours);

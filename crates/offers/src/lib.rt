@@ -4,7 +4,7 @@ ghost use mathlib.Core.Bool.{_||_};
 ghost use Prim.Native.Nat.{_+_, _<_};
 ghost use lib.Dec.{ltb};
 ghost use lib.ListN.{getD};
-ghost use Rattle.rules.specs.Windows.{latest, offerOutside};
+ghost use Rattle.rules.specs.Windows.{latest, offerTiming};
 ghost use Rattle.rules.specs.Book.{place};
 ghost use Rattle.rules.specs.Calls.{OfferDirection, OfferProfile};
 ghost use Rattle.cells.specs.View.{InHour, bookOf};
@@ -14,6 +14,7 @@ use answers::Verdict;
 use cells::Book;
 use rules::Answer;
 use rules::Hour;
+use rules::Timing;
 
 // ---- tests
 
@@ -24,13 +25,13 @@ fn offer_field(time: u32, mw: u16) -> bool
     time > rules::LATEST || mw > rules::MOST_MW
 }
 
-// Outside the window of offers of the session that holds the hour.
-fn outside(book: &Book, model: u32, hour: Hour, time: u32) -> bool
-    ensures { λ r. ⌜ r ≡ offerOutside (bookOf (now (book .entry)) .hours) (bookOf (now (book .entry)) .weekday) model (hour .0) time ⌝ }
+// Where the time stands to the offers of the session that holds the hour.
+fn timing(book: &Book, model: u32, hour: Hour, time: u32) -> Timing
+    ensures { λ r. ⌜ r ≡ offerTiming (bookOf (now (book .entry)) .hours) (bookOf (now (book .entry)) .weekday) model (hour .0) time ⌝ }
 {
     let hours = cells::hours(book);
     let weekday = cells::weekday(book);
-    windows::offer_outside(hours, weekday, model, hour, time)
+    windows::offer_timing(hours, weekday, model, hour, time)
 }
 
 // Under the MW granted there.
@@ -54,8 +55,10 @@ fn direction_verdict(book: &Book, time: u32, direction: u8, hour: Hour, mw: u16)
         return Verdict::No(Answer::Unknown);
     }
     let model = tables::model_of(book, direction);
-    if outside(book, model, hour, time) {
-        return Verdict::No(Answer::Gate);
+    match timing(book, model, hour, time) {
+        Timing::Early => return Verdict::No(Answer::TooEarly),
+        Timing::Late => return Verdict::No(Answer::TooLate),
+        Timing::Within => {}
     }
     if offer_below(book, direction, hour, mw) {
         return Verdict::No(Answer::Below);
@@ -75,8 +78,10 @@ fn profile_verdict(book: &Book, time: u32, profile: u8, hour: Hour, mw: u16) -> 
     if answers::profile_hour_unknown(book, profile, hour) {
         return Verdict::No(Answer::Unknown);
     }
-    if outside(book, 1, hour, time) {
-        return Verdict::No(Answer::Gate);
+    match timing(book, 1, hour, time) {
+        Timing::Early => return Verdict::No(Answer::TooEarly),
+        Timing::Late => return Verdict::No(Answer::TooLate),
+        Timing::Within => {}
     }
     if offer_below(book, cells::PROFILE_ROW + profile, hour, mw) {
         return Verdict::No(Answer::Below);

@@ -1,15 +1,15 @@
 -- `nominations::nomination_verdict` meets its contract: each test passed leaves fewer numbers, and one that holds is the first.
 -- Assumes nothing.
 use Prim.Native.Nat.{ℕ}
-use mathlib.Core.Path.{refl}
+use mathlib.Core.Path.{_≡_, refl, sym, _∙_}
 use mathlib.Core.List.{List, [], _∷_}
 use denote.Ref.{now}
 use Rattle.rules.specs.Calls.{Nominate}
-use Rattle.rules.specs.Refusals.{refuses, field, clock, unknown, gate, wrongHours, noAccess, notOwner, full}
+use Rattle.rules.specs.Refusals.{refuses, field, clock, unknown, timingOf, wrongHours, noAccess, notOwner, full}
 use Rattle.rules.specs.Details.{refusal}
-use Rattle.rules.specs.declared.Answer.the-variants.{Field, Clock, Unknown, Gate, Hours, Access, Owner, Full}
+use Rattle.rules.specs.declared.Answer.the-variants.{Field, Clock, Unknown, Hours, Access, Owner, Full}
 use Rattle.cells.specs.View.{bookOf}
-use Rattle.answers.proofs.Laws.{Left, pass, refuse, none-left, told}
+use Rattle.answers.proofs.Laws.{Left, pass, refuse, too-early, too-late, in-window, none-left, told}
 use Rattle.pairs.proofs.Pairs.{full-is}
 use Rattle.nominations.proofs.Verdicts.{nomination-left, KnownNomination, known-nomination}
 use borrow.Author.Needs.{needs}
@@ -20,18 +20,18 @@ use Rattle.nominations.proofs.nomination_verdict.Tie as tie
 abbrev To : tie.Start → List ℕ → Type 0
 To s ns = Left (bookOf (now (s .args .book))) (Nominate (s .args .time) (s .args .sender) (s .args .other) (s .args .right) (s .args .side) (s .args .mw)) ns
 
-start : (c : tie.Start) → To c (3 ∷ 5 ∷ 6 ∷ 8 ∷ 9 ∷ 10 ∷ 11 ∷ 13 ∷ [])
+start : (c : tie.Start) → To c (3 ∷ 5 ∷ 6 ∷ 16 ∷ 8 ∷ 9 ∷ 10 ∷ 11 ∷ 13 ∷ [])
 start c = nomination-left _ _ _ _ _ _ _
 
-after1 : (c : tie.Else1) → To (c .before .before) (5 ∷ 6 ∷ 8 ∷ 9 ∷ 10 ∷ 11 ∷ 13 ∷ [])
+after1 : (c : tie.Else1) → To (c .before .before) (5 ∷ 6 ∷ 16 ∷ 8 ∷ 9 ∷ 10 ∷ 11 ∷ 13 ∷ [])
 unfolding refuses field
 after1 c = pass (start (c .before .before)) (told (c .before .nomination-field .ensures) (c .if1 .left))
 
-after2 : (c : tie.Else2) → To (c .before .before .before .before) (6 ∷ 8 ∷ 9 ∷ 10 ∷ 11 ∷ 13 ∷ [])
+after2 : (c : tie.Else2) → To (c .before .before .before .before) (6 ∷ 16 ∷ 8 ∷ 9 ∷ 10 ∷ 11 ∷ 13 ∷ [])
 unfolding refuses clock
 after2 c = pass (after1 (c .before .before)) (told (c .before .before-clock .ensures) (c .if2 .left))
 
-after3 : (c : tie.Else3) → To (c .before .before .before .before .before .before) (8 ∷ 9 ∷ 10 ∷ 11 ∷ 13 ∷ [])
+after3 : (c : tie.Else3) → To (c .before .before .before .before .before .before) (16 ∷ 8 ∷ 9 ∷ 10 ∷ 11 ∷ 13 ∷ [])
 unfolding refuses unknown
 after3 c = pass (after2 (c .before .before)) (told (c .before .nomination-unknown .ensures) (c .if3 .left))
 
@@ -39,21 +39,24 @@ after3 c = pass (after2 (c .before .before)) (told (c .before .nomination-unknow
 knows : (c : tie.Else3) → let a = c .before .before .before .before .before .before .args in KnownNomination (now (a .book)) (a .sender) (a .right)
 knows c = known-nomination _ _ _ _ (told (c .before .nomination-unknown .ensures) (c .if3 .left))
 
-after4 : (c : tie.Else4) → To (c .before .before .before .before .before .before .before .before) (9 ∷ 10 ∷ 11 ∷ 13 ∷ [])
-unfolding refuses gate
-after4 c = pass (after3 (c .before .before)) (told (c .before .outside .ensures) (c .if4 .left))
+timing-is : (c : tie.After-timing) → let a = c .before .before .before .before .before .before .before .args in timingOf (bookOf (now (a .book))) (Nominate (a .time) (a .sender) (a .other) (a .right) (a .side) (a .mw)) ≡ c .timing .result
+unfolding timingOf
+timing-is c = sym (c .timing .ensures)
 
-after5 : (c : tie.Else5) → To (c .before .before .before .before .before .before .before .before .before .before) (10 ∷ 11 ∷ 13 ∷ [])
+after4 : (c : tie.After-enum-told3) → To (c .before .before .before .before .before .before .before .before .before) (9 ∷ 10 ∷ 11 ∷ 13 ∷ [])
+after4 c = in-window (after3 (c .before .before .before)) (timing-is (c .before .before) ∙ c .enum-told3 .given .1)
+
+after5 : (c : tie.Else4) → To (c .before .before .before .before .before .before .before .before .before .before .before) (10 ∷ 11 ∷ 13 ∷ [])
 unfolding refuses wrongHours
-after5 c = pass (after4 (c .before .before)) (told (c .before .lacking-hours .ensures) (c .if5 .left))
+after5 c = pass (after4 (c .before .before)) (told (c .before .lacking-hours .ensures) (c .if4 .left))
 
-after6 : (c : tie.Else6) → To (c .before .before .before .before .before .before .before .before .before .before .before .before) (11 ∷ 13 ∷ [])
+after6 : (c : tie.Else5) → To (c .before .before .before .before .before .before .before .before .before .before .before .before .before) (11 ∷ 13 ∷ [])
 unfolding refuses noAccess
-after6 c = pass (after5 (c .before .before)) (told (c .before .no-access .ensures) (c .if6 .left))
+after6 c = pass (after5 (c .before .before)) (told (c .before .no-access .ensures) (c .if5 .left))
 
-after7 : (c : tie.Else7) → To (c .before .before .before .before .before .before .before .before .before .before .before .before .before .before) (13 ∷ [])
+after7 : (c : tie.Else6) → To (c .before .before .before .before .before .before .before .before .before .before .before .before .before .before .before) (13 ∷ [])
 unfolding refuses notOwner
-after7 c = pass (after6 (c .before .before)) (told (c .before .not-owner .ensures) (c .if7 .left))
+after7 c = pass (after6 (c .before .before)) (told (c .before .not-owner .ensures) (c .if6 .left))
 
 returns : tie.Need-returns
 unfolding refuses field refusal
@@ -67,45 +70,47 @@ returns-3 : tie.Need-returns-3
 unfolding refuses unknown refusal
 returns-3 c = refuse Unknown (after2 (c .before .before)) (told (c .before .nomination-unknown .ensures) (c .if3 .taken)) refl refl
 
-outside-requires : tie.Need-outside-requires
-outside-requires c κs = knows c .right
+timing-requires : tie.Need-timing-requires
+timing-requires c κs = knows c .right
 
 returns-4 : tie.Need-returns-4
-unfolding refuses gate refusal
-returns-4 c = refuse Gate (after3 (c .before .before)) (told (c .before .outside .ensures) (c .if4 .taken)) refl refl
-
-lacking-hours-requires : tie.Need-lacking-hours-requires
-lacking-hours-requires c κs = knows (c .before .before) .right
+returns-4 c = too-early (after3 (c .before .before .before)) (timing-is (c .before .before) ∙ c .enum-told .given .1)
 
 returns-5 : tie.Need-returns-5
-unfolding refuses wrongHours refusal
-returns-5 c = refuse Hours (after4 (c .before .before)) (told (c .before .lacking-hours .ensures) (c .if5 .taken)) refl refl
+returns-5 c = too-late (after3 (c .before .before .before)) (timing-is (c .before .before) ∙ c .enum-told2 .given .1)
 
-no-access-requires : tie.Need-no-access-requires
-no-access-requires c κs = (knows (c .before .before .before .before) .sender, knows (c .before .before .before .before) .right)
+lacking-hours-requires : tie.Need-lacking-hours-requires
+lacking-hours-requires c κs = knows (c .before .before .before) .right
 
 returns-6 : tie.Need-returns-6
-unfolding refuses noAccess refusal
-returns-6 c = refuse Access (after5 (c .before .before)) (told (c .before .no-access .ensures) (c .if6 .taken)) refl refl
+unfolding refuses wrongHours refusal
+returns-6 c = refuse Hours (after4 (c .before .before)) (told (c .before .lacking-hours .ensures) (c .if4 .taken)) refl refl
 
-not-owner-requires : tie.Need-not-owner-requires
-not-owner-requires c κs = knows (c .before .before .before .before .before .before) .right
+no-access-requires : tie.Need-no-access-requires
+no-access-requires c κs = (knows (c .before .before .before .before .before) .sender, knows (c .before .before .before .before .before) .right)
 
 returns-7 : tie.Need-returns-7
-unfolding refuses notOwner refusal
-returns-7 c = refuse Owner (after6 (c .before .before)) (told (c .before .not-owner .ensures) (c .if7 .taken)) refl refl
+unfolding refuses noAccess refusal
+returns-7 c = refuse Access (after5 (c .before .before)) (told (c .before .no-access .ensures) (c .if5 .taken)) refl refl
+
+not-owner-requires : tie.Need-not-owner-requires
+not-owner-requires c κs = knows (c .before .before .before .before .before .before .before) .right
 
 returns-8 : tie.Need-returns-8
-unfolding refuses full refusal
-returns-8 c =
-    let s = c .before .before in
-    refuse Full (after7 (s .before)) (full-is _ _ _ _ (s .nominated-pair .ensures) (told (c .before .pairs-full .ensures) (c .if8 .taken))) refl refl
+unfolding refuses notOwner refusal
+returns-8 c = refuse Owner (after6 (c .before .before)) (told (c .before .not-owner .ensures) (c .if6 .taken)) refl refl
 
 returns-9 : tie.Need-returns-9
-unfolding refuses full
+unfolding refuses full refusal
 returns-9 c =
     let s = c .before .before in
-    let h = told (c .before .pairs-full .ensures) (c .if8 .left) in
+    refuse Full (after7 (s .before)) (full-is _ _ _ _ (s .nominated-pair .ensures) (told (c .before .pairs-full .ensures) (c .if7 .taken))) refl refl
+
+returns-10 : tie.Need-returns-10
+unfolding refuses full
+returns-10 c =
+    let s = c .before .before in
+    let h = told (c .before .pairs-full .ensures) (c .if7 .left) in
     record {
       clear = none-left (pass (after7 (s .before)) (full-is _ _ _ _ (s .nominated-pair .ensures) h));
       enters = record { found-is = s .nominated-pair .ensures; free = h };
@@ -121,15 +126,19 @@ nomination-verdict-spec =
     returns-2
     (λ c κs. search needs)
     returns-3
-    outside-requires
+    timing-requires
+    (λ c. search needs)
     returns-4
-    lacking-hours-requires
+    (λ c. search needs)
     returns-5
-    no-access-requires
+    (λ c. search needs)
+    lacking-hours-requires
     returns-6
-    not-owner-requires
+    no-access-requires
     returns-7
-    (λ c κs. search needs)
-    (λ c κs. search needs)
+    not-owner-requires
     returns-8
-    returns-9)
+    (λ c κs. search needs)
+    (λ c κs. search needs)
+    returns-9
+    returns-10)
