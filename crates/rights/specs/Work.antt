@@ -6,7 +6,7 @@ use mathlib.Core.Bool.{Bool, true, false, cond}
 use mathlib.Core.List.{List, _∷_}
 use lib.Dec.{eqb, leb}
 use lib.ListN.{length}
-use Rattle.rules.specs.Book.{Right, rightLimit}
+use Rattle.rules.specs.Book.{rightLimit}
 use Rattle.rules.specs.Bids.{isRightOf, withRight, rightNumber}
 use Rattle.cells.specs.Layout.{CELLS, RIGHTS}
 use Rattle.cells.specs.Search.{firstRow}
