@@ -1,5 +1,5 @@
 // The sessions of both models on days of 23, 24 and 25 hours, and every window at the minutes about its gates, on Mondays, Tuesdays and
-// Wednesdays.
+// Wednesdays: whether a call is too early, in or too late.
 use cases_printing::Tally;
 use cases_printing::case;
 use cases_printing::counted;
@@ -8,6 +8,7 @@ use cases_printing::text;
 use cases_printing::word;
 use rules::Hour;
 use rules::Session;
+use rules::Timing;
 use rules::less;
 ghost use Prim.Native.Nat.{_<_, _≤_};
 
@@ -146,6 +147,7 @@ fn about(window: Window, from: u32, to: u32) -> Window {
     }
 }
 
+// A matching has no end: minute 3000 is past the last one.
 fn window_of(place: Place, row: usize) -> Window {
     let shift = 60 * gate_of(place);
     let opens = if place.model == 1 { 1080 } else { 1020 + shift };
@@ -170,12 +172,19 @@ fn minute_of(window: Window, k: u32) -> u32 {
 }
 
 // Bids are held on a Wednesday.
-fn is_expected(weekday: u32, window: Window, minute: u32) -> bool {
-    let held = (weekday == 3)
-        & (window.row <= HELD_BIDS)
-        & (HOLD_BEGINS <= minute)
-        & (minute < HOLD_ENDS);
-    (window.opens <= minute) & (minute < window.closes) & !held
+fn is_held(weekday: u32, row: usize, minute: u32) -> bool {
+    (weekday == 3) & (row <= HELD_BIDS) & (HOLD_BEGINS <= minute) & (minute < HOLD_ENDS)
+}
+
+// A bid in the hold is early.
+fn expected_timing(weekday: u32, window: Window, minute: u32) -> Timing {
+    if minute < window.opens || is_held(weekday, window.row, minute) {
+        return Timing::Early;
+    }
+    if minute < window.closes {
+        return Timing::Within;
+    }
+    Timing::Late
 }
 
 // The hour that an offer of the row is for.
@@ -186,20 +195,37 @@ fn hour_of(place: Place, row: usize) -> u32 {
     first_of(place)
 }
 
-fn is_inside(place: Place, row: usize, minute: u32) -> bool {
+fn found_timing(place: Place, row: usize, minute: u32) -> Timing {
     let session = Session(place.session);
     let hours = place.hours;
     let weekday = place.weekday;
     let model = place.model;
     match row {
-        BIDS | HELD_BIDS => !windows::bid_outside(hours, weekday, model, session, minute),
-        NOMINATIONS => !windows::nomination_outside(hours, weekday, model, session, minute),
-        MATCHING => !windows::matching_outside(hours, weekday, model, session, minute),
+        BIDS | HELD_BIDS => windows::bid_timing(hours, weekday, model, session, minute),
+        NOMINATIONS => windows::nomination_timing(hours, weekday, model, session, minute),
+        MATCHING => windows::matching_timing(hours, weekday, model, session, minute),
         _ => {
             let hour = Hour((hour_of(place, row) % 256) as u8);
-            !windows::offer_outside(hours, weekday, model, hour, minute)
+            windows::offer_timing(hours, weekday, model, hour, minute)
         }
     }
+}
+
+// The number of the answer, 0 where no refusal is due.
+fn number_of(timing: Timing) -> u32 {
+    match timing {
+        Timing::Early => 16,
+        Timing::Within => 0,
+        Timing::Late => 8,
+    }
+}
+
+fn print_number(number: u32) {
+    if number == 0 {
+        text(b" in");
+        return;
+    }
+    fill(b" #", &[number]);
 }
 
 // Prints what comes out at each minute, and answers whether all were expected.
@@ -207,18 +233,19 @@ fn print_found(place: Place, window: Window) -> bool {
     let mut same = true;
     for k in 0..4u32 {
         let minute = minute_of(window, k);
-        let inside = is_inside(place, window.row, minute);
+        let found = number_of(found_timing(place, window.row, minute));
         fill(b"#", &[minute]);
-        word(b" out, | in, ", inside as usize);
-        same = same & (inside == is_expected(place.weekday, window, minute));
+        print_number(found);
+        text(b", ");
+        same = same & (found == number_of(expected_timing(place.weekday, window, minute)));
     }
     same
 }
 
 fn print_expected(weekday: u32, window: Window) {
     for k in 0..4u32 {
-        let inside = is_expected(weekday, window, minute_of(window, k));
-        word(b" out| in", inside as usize);
+        let minute = minute_of(window, k);
+        print_number(number_of(expected_timing(weekday, window, minute)));
     }
 }
 

@@ -6,10 +6,10 @@ use Rattle.cases_windows.proofs.print_expected.Statement.{statement}
 use Rattle.cases_windows.proofs.print_expected.Tie as tie
 
 abbrev Inv-loop : tie.InvT-loop
-Inv-loop weekday window k₀ t5 k = k ≤ 4
+Inv-loop weekday window k₀ k = k ≤ 4
 
 abbrev μ-loop : tie.MeasureT-loop
-μ-loop weekday window k₀ t5 k = 4 - k
+μ-loop weekday window k₀ k = 4 - k
 
 pub print-expected-spec : {M : Type 1} → statement M
 print-expected-spec =
@@ -20,8 +20,7 @@ print-expected-spec =
     (λ c. search needs)
     (λ c κs. search needs)
     (λ c κs. search needs)
-    (λ c. search needs)
-    (λ c. search needs)
+    (λ c κs. search needs)
     (λ c κs. search needs)
     (λ c. search needs)
     (λ c. search needs)
