@@ -7,7 +7,7 @@ pub enum CapacityOf {
     Profile(u8),
 }
 
-/// Granted with its detail, or the refusal by its trade word.
+/// Granted with its detail, or the refusal by its trade word, in the order in which they are asked.
 #[derive(Clone, Copy, PartialEq, Eq, Debug)]
 pub enum Answer {
     Granted(u32),
@@ -17,7 +17,8 @@ pub enum Answer {
     Clock,
     Unknown,
     Taken,
-    Gate,
+    TooEarly,
+    TooLate,
     Hours,
     Access,
     Owner,
@@ -38,7 +39,8 @@ impl Answer {
             Answer::Clock => (5, 0, 0),
             Answer::Unknown => (6, 0, 0),
             Answer::Taken => (7, 0, 0),
-            Answer::Gate => (8, 0, 0),
+            Answer::TooEarly => (16, 0, 0),
+            Answer::TooLate => (8, 0, 0),
             Answer::Hours => (9, 0, 0),
             Answer::Access => (10, 0, 0),
             Answer::Owner => (11, 0, 0),

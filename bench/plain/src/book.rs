@@ -1,9 +1,9 @@
 //! The book of one delivery day: set-up, offers, bids, rights, nominations, matchings and the reads.
-//! A call looks for the lowest refusal number that applies, and changes nothing before it is sure that none does.
+//! A call looks for the first refusal in their order that applies, and changes nothing before it is sure that none does.
 
 use crate::answer::{Answer, CapacityOf};
 use crate::code::{is_party_code, Code};
-use crate::day::{Day, Model};
+use crate::day::{Day, Model, Timing};
 
 const LATEST: u32 = 2999;
 const HIGHEST_MW: u16 = 9999;
@@ -108,6 +108,15 @@ fn any_above_zero(mw: &[u16]) -> bool {
     mw.iter().any(|&m| m > 0)
 }
 
+/// The refusal of a call outside its window.
+fn refusal_at(timing: Timing) -> Option<Answer> {
+    match timing {
+        Timing::Early => Some(Answer::TooEarly),
+        Timing::Within => None,
+        Timing::Late => Some(Answer::TooLate),
+    }
+}
+
 // Opening and set-up.
 impl Book {
     /// A refused opening gives an empty book of a 24-hour Monday.
@@ -134,7 +143,7 @@ impl Book {
         self.clock.is_some()
     }
 
-    fn is_early(&self, time: u32) -> bool {
+    fn before_clock(&self, time: u32) -> bool {
         self.clock.is_some_and(|clock| time < clock)
     }
 
@@ -217,7 +226,7 @@ impl Book {
         if time > LATEST || mw > HIGHEST_MW {
             return Answer::Field;
         }
-        if self.is_early(time) {
+        if self.before_clock(time) {
             return Answer::Clock;
         }
         let Some(offered) = self.directions.get_mut(usize::from(direction)) else {
@@ -226,8 +235,9 @@ impl Book {
         if !self.day.has_hour(hour) {
             return Answer::Unknown;
         }
-        if !self.day.takes_offer(offered.model, hour, time) {
-            return Answer::Gate;
+        let timing = self.day.offer_timing(offered.model, hour, time);
+        if let Some(refusal) = refusal_at(timing) {
+            return refusal;
         }
         let capacity = &mut offered.capacity[at(hour)];
         if u32::from(mw) < capacity.granted {
@@ -243,7 +253,7 @@ impl Book {
         if time > LATEST || mw > HIGHEST_MW {
             return Answer::Field;
         }
-        if self.is_early(time) {
+        if self.before_clock(time) {
             return Answer::Clock;
         }
         let Some(offered) = self.profiles.get_mut(usize::from(profile)) else {
@@ -252,8 +262,9 @@ impl Book {
         if !self.day.has_hour(hour) {
             return Answer::Unknown;
         }
-        if !self.day.takes_offer(Model::OneHour, hour, time) {
-            return Answer::Gate;
+        let timing = self.day.offer_timing(Model::OneHour, hour, time);
+        if let Some(refusal) = refusal_at(timing) {
+            return refusal;
         }
         let capacity = &mut offered.capacity[at(hour)];
         if u32::from(mw) < capacity.granted {
@@ -301,7 +312,7 @@ impl Book {
         }
     }
 
-    /// Refusals 3 to 10 of a bid, or the model of its direction.
+    /// The refusals of a bid from 3 to 10 in their order, or the model of its direction.
     fn check_bid(
         &self,
         time: u32,
@@ -313,7 +324,7 @@ impl Book {
         if time > LATEST || any_too_high(mw) {
             return Err(Answer::Field);
         }
-        if self.is_early(time) {
+        if self.before_clock(time) {
             return Err(Answer::Clock);
         }
         let bidder = self.parties.get(usize::from(party));
@@ -324,8 +335,9 @@ impl Book {
         if !self.day.has_session(asked.model, session) {
             return Err(Answer::Unknown);
         }
-        if !self.day.takes_bid(asked.model, session, time) {
-            return Err(Answer::Gate);
+        let timing = self.day.bid_timing(asked.model, session, time);
+        if let Some(refusal) = refusal_at(timing) {
+            return Err(refusal);
         }
         let past_session = &mw[self.day.hours_in(asked.model, session)..];
         if any_above_zero(past_session) || !any_above_zero(mw) {
@@ -403,7 +415,7 @@ impl Book {
         (0..5).fold(0, |marks, k| marks | u32::from(totals[k] > held[k]) << k)
     }
 
-    /// Refusals 3 to 11 of a nomination.
+    /// The refusals of a nomination from 3 to 11 in their order.
     fn check_nomination(
         &self,
         time: u32,
@@ -416,7 +428,7 @@ impl Book {
         if time > LATEST || side > 1 || any_too_high(mw) {
             return Err(Answer::Field);
         }
-        if self.is_early(time) {
+        if self.before_clock(time) {
             return Err(Answer::Clock);
         }
         let party = self.parties.get(usize::from(sender));
@@ -429,8 +441,9 @@ impl Book {
         }
         let direction = &self.directions[usize::from(nominated.direction)];
         let (model, session) = (direction.model, nominated.session);
-        if !self.day.takes_nomination(model, session, time) {
-            return Err(Answer::Gate);
+        let timing = self.day.nomination_timing(model, session, time);
+        if let Some(refusal) = refusal_at(timing) {
+            return Err(refusal);
         }
         if any_above_zero(&mw[self.day.hours_in(model, session)..]) {
             return Err(Answer::Hours);
@@ -494,7 +507,7 @@ impl Book {
         if time > LATEST {
             return Answer::Field;
         }
-        if self.is_early(time) {
+        if self.before_clock(time) {
             return Answer::Clock;
         }
         let Some(matched) = self.directions.get_mut(usize::from(direction)) else {
@@ -503,8 +516,9 @@ impl Book {
         if !self.day.has_session(matched.model, session) {
             return Answer::Unknown;
         }
-        if !self.day.takes_matching(matched.model, session, time) {
-            return Answer::Gate;
+        let timing = self.day.matching_timing(matched.model, session, time);
+        if let Some(refusal) = refusal_at(timing) {
+            return refusal;
         }
         if matched.matched[at(session)] {
             return Answer::Cycle;

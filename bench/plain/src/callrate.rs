@@ -48,9 +48,9 @@ impl Sum {
     }
 }
 
-/// How many calls had each answer, by its number.
+/// How many calls had each answer, by its number, below 32.
 #[derive(Default)]
-struct Counts([u32; 16]);
+struct Counts([u32; 32]);
 
 impl Counts {
     fn add(&mut self, answer: Answer) {

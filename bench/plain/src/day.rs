@@ -1,9 +1,32 @@
 //! Hours, sessions and windows of one delivery day. Time is in minutes from 24 hours before the day begins.
 
+use std::ops::Range;
+
 #[derive(Clone, Copy, PartialEq, Eq)]
 pub enum Model {
     OneHour,
     FourHour,
+}
+
+/// Where a time stands to a window.
+#[derive(Clone, Copy, PartialEq, Eq)]
+pub enum Timing {
+    Early,
+    Within,
+    Late,
+}
+
+impl Timing {
+    /// A window holds the minute at which it opens and not the one at which it closes.
+    fn of(time: u32, window: Range<u32>) -> Timing {
+        if time < window.start {
+            Timing::Early
+        } else if time < window.end {
+            Timing::Within
+        } else {
+            Timing::Late
+        }
+    }
 }
 
 #[derive(Clone, Copy)]
@@ -88,22 +111,32 @@ impl Day {
         1230 + 60 * self.gate_hour(model, session)
     }
 
-    pub fn takes_bid(&self, model: Model, session: u8, time: u32) -> bool {
-        let held = self.weekday == WEDNESDAY && (1170..1290).contains(&time);
-        !held && (self.opening(model, session)..self.bids_close(model, session)).contains(&time)
+    /// A bid in the hold of a Wednesday is early.
+    pub fn bid_timing(&self, model: Model, session: u8, time: u32) -> Timing {
+        if self.weekday == WEDNESDAY && (1170..1290).contains(&time) {
+            return Timing::Early;
+        }
+        let opening = self.opening(model, session);
+        Timing::of(time, opening..self.bids_close(model, session))
     }
 
-    pub fn takes_nomination(&self, model: Model, session: u8, time: u32) -> bool {
+    pub fn nomination_timing(&self, model: Model, session: u8, time: u32) -> Timing {
         let close = 1290 + 60 * self.gate_hour(model, session);
-        (self.opening(model, session)..close).contains(&time)
+        Timing::of(time, self.opening(model, session)..close)
     }
 
     /// Offers close with the bids of the session that holds the hour.
-    pub fn takes_offer(&self, model: Model, hour: u8, time: u32) -> bool {
-        (960..self.bids_close(model, self.session_of(model, hour))).contains(&time)
+    pub fn offer_timing(&self, model: Model, hour: u8, time: u32) -> Timing {
+        let close = self.bids_close(model, self.session_of(model, hour));
+        Timing::of(time, 960..close)
     }
 
-    pub fn takes_matching(&self, model: Model, session: u8, time: u32) -> bool {
-        time >= 1335 + 60 * self.gate_hour(model, session)
+    /// A matching is never late.
+    pub fn matching_timing(&self, model: Model, session: u8, time: u32) -> Timing {
+        if time < 1335 + 60 * self.gate_hour(model, session) {
+            Timing::Early
+        } else {
+            Timing::Within
+        }
     }
 }

@@ -31,7 +31,7 @@ fn print_sum(name: &[u8], calls: u32, sum: u32) {
 
 // A line for each answer that occurred.
 fn print_answers(tally: &Tally) {
-    for number in 0..16usize {
+    for number in 0..32usize {
         let calls = tally[number];
         if calls > 0 {
             print(calls, b" bids with answer ");
@@ -60,8 +60,8 @@ fn make_calls(book: &mut Book, tally: &mut Tally, load: Load, rights: u32, calls
 
 fn run_load(name: &[u8], load: Load, rights: u32, calls: u32) {
     let mut book = [0u32; cells::CELLS];
-    let mut before = [0u32; 17];
-    let mut tally = [0u32; 17];
+    let mut before = [0u32; 33];
+    let mut tally = [0u32; 33];
     callrate_books::fill(&mut book, &mut before, rights);
     let sum = make_calls(&mut book, &mut tally, load, rights, calls);
     // Only the load `bids` begins with no right.

@@ -8,8 +8,8 @@ use rules::ReplyNumbers;
 use rules::Session;
 use std::num::wrapping_add_u32;
 
-// How many calls had each answer, by its number; in the last place the sum of all their numbers and details, modulo 2^32.
-pub type Tally = [u32; 17];
+// How many calls had each answer, by its number, below 32; in the last place the sum of all their numbers and details, modulo 2^32.
+pub type Tally = [u32; 33];
 
 // ---- answers
 
@@ -25,9 +25,9 @@ pub fn sum_of(answer: Answer) -> u32 {
 
 fn count(tally: &mut Tally, answer: Answer) {
     let reply = daybook::numbers(answer);
-    let number = (reply.number % 16) as usize;
+    let number = (reply.number % 32) as usize;
     tally[number] = wrapping_add_u32(tally[number], 1);
-    tally[16] = wrapping_add_u32(tally[16], sum_of_numbers(reply));
+    tally[32] = wrapping_add_u32(tally[32], sum_of_numbers(reply));
 }
 
 // ---- set-up
@@ -87,7 +87,7 @@ pub fn make_bids(book: &mut Book, tally: &mut Tally, bids: Bids, calls: u32) -> 
     for i in 0..calls {
         count(tally, bid(book, callrate_choices::bid_of(bids, i)));
     }
-    tally[16]
+    tally[32]
 }
 
 fn fill_rights(book: &mut Book, rights: u32) {

@@ -46,7 +46,8 @@ fn new_right_bid(mut bid: Bid, i: u32) -> Bid {
     bid
 }
 
-// A bid at a shut gate, one that names what is not there, one with no MW, with a fifth hour, with more MW than are left.
+// A bid too early for the next session or, in the last window, too late for the first; one that names what is not there, one with no MW,
+// with a fifth hour, with more MW than are left.
 fn odd_bid(mut bid: Bid, kind: u32) -> Bid {
     match kind {
         42 | 43 => bid.session = 1 + bid.session % 6,

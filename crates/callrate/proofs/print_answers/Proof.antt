@@ -6,10 +6,10 @@ use Rattle.callrate.proofs.print_answers.Statement.{statement}
 use Rattle.callrate.proofs.print_answers.Tie as tie
 
 abbrev Inv-loop : tie.InvT-loop
-Inv-loop tally number₀ t4 t5 number = number ≤ 16
+Inv-loop tally number₀ t4 t5 number = number ≤ 32
 
 abbrev μ-loop : tie.MeasureT-loop
-μ-loop tally number₀ t4 t5 number = 16 - number
+μ-loop tally number₀ t4 t5 number = 32 - number
 
 pub print-answers-spec : {M : Type 1} → statement M
 print-answers-spec =
