@@ -15,10 +15,12 @@ use Rattle.rules.specs.Details.{detail, refusal}
 use Rattle.rules.specs.Run.{applied}
 use Rattle.rules.specs.declared.Answer.{Answer}
 use Rattle.rules.specs.declared.Answer.the-variants.{TooEarly, TooLate}
+use Rattle.rules.specs.declared.Timing.{Timing}
 use Rattle.rules.specs.declared.Timing.the-variants.{Early, Within, Late}
 use Rattle.cells.specs.View.{bookOf}
+use Rattle.answers.specs.declared.Verdict.{Verdict}
 use Rattle.answers.specs.declared.Verdict.the-variants.{Clear, No}
-use Rattle.answers.specs.Promises.{Answers, Judged}
+use Rattle.answers.specs.Promises.{Answers, Judged, windowVerdict}
 
 -- ---- from a verdict to the promise
 
@@ -62,18 +64,16 @@ pub refuse : {b : Book} {c : Call} {n : ℕ} {ns : List ℕ} (a : Answer) → Le
 unfolding firstOf
 refuse a l e z s = rw (l .number-is, e) (z, s)
 
--- the window of a call decides on 16 and 8, and clears both
-pub too-early : {b : Book} {c : Call} {ns : List ℕ} → Left b c (16 ∷ 8 ∷ ns) → timingOf b c ≡ Early → Judged b c (No TooEarly)
-unfolding refuses refusal
-too-early l e = refuse TooEarly l (ap tooEarly e) refl refl
+-- what the window finds decides on 16 and 8: a refusal, or the numbers after them are left
+abbrev pub ByWindow : Book → Call → List ℕ → Verdict → Type 0
+ByWindow b c ns Clear = Left b c ns
+ByWindow b c ns (No a) = Judged b c (No a)
 
-pub too-late : {b : Book} {c : Call} {ns : List ℕ} → Left b c (16 ∷ 8 ∷ ns) → timingOf b c ≡ Late → Judged b c (No TooLate)
+pub by-window : {b : Book} {c : Call} {ns : List ℕ} {t : Timing} → Left b c (16 ∷ 8 ∷ ns) → t ≡ timingOf b c → ByWindow b c ns (windowVerdict t)
 unfolding refuses refusal
-too-late l e = refuse TooLate (pass l (ap tooEarly e)) (ap tooLate e) refl refl
-
-pub in-window : {b : Book} {c : Call} {ns : List ℕ} → Left b c (16 ∷ 8 ∷ ns) → timingOf b c ≡ Within → Left b c ns
-unfolding refuses
-in-window l e = pass (pass l (ap tooEarly e)) (ap tooLate e)
+by-window {t = Early} l e = refuse TooEarly l (ap tooEarly (sym e)) refl refl
+by-window {t = Within} l e = pass (pass l (ap tooEarly (sym e))) (ap tooLate (sym e))
+by-window {t = Late} l e = refuse TooLate (pass l (ap tooEarly (sym e))) (ap tooLate (sym e)) refl refl
 
 pub none-left : {b : Book} {c : Call} → Left b c [] → Judged b c Clear
 unfolding firstOf

@@ -14,6 +14,9 @@ use Rattle.rules.specs.Run.{applied}
 use Rattle.rules.specs.Opening.{opening}
 use Rattle.rules.specs.Reads.{LeftReply, readDirection, readProfile, RightReply, readRight, ConfirmedReply, readConfirmed}
 use Rattle.rules.specs.declared.Answer.{Answer}
+use Rattle.rules.specs.declared.Answer.the-variants.{TooEarly, TooLate}
+use Rattle.rules.specs.declared.Timing.{Timing}
+use Rattle.rules.specs.declared.Timing.the-variants.{Early, Within, Late}
 use Rattle.cells.specs.View.{bookOf}
 use Rattle.answers.specs.declared.Verdict.{Verdict}
 use Rattle.answers.specs.declared.Verdict.the-variants.{Clear, No}
@@ -36,6 +39,12 @@ pub record Answers (before : List ℕ) (c : Call) (r : Answer) (after : List ℕ
 abbrev pub Judged : Book → Call → Verdict → Type 0
 Judged b c Clear = number b c ≡ 0
 Judged b c (No a) = (eqb (number b c) 0 ≡ false) × (said a ≡ refusal b c (number b c))
+
+-- what the window of a call finds
+abbrev pub windowVerdict : Timing → Verdict
+windowVerdict Early = No TooEarly
+windowVerdict Within = Clear
+windowVerdict Late = No TooLate
 
 -- ---- the reads
 

@@ -6,12 +6,14 @@ ghost use Rattle.rules.specs.Basics.{bit};
 ghost use Rattle.rules.specs.Said.{said, saidNumbers, capacityNumber};
 ghost use Rattle.rules.specs.Refusals.{partyUnknown, directionUnknown, profileUnknown, hourUnknown};
 ghost use Rattle.cells.specs.View.{bookOf};
+ghost use Rattle.answers.specs.Promises.{windowVerdict};
 use cells::Book;
 use rules::Answer;
 use rules::CapacityOf;
 use rules::Hour;
 use rules::ReplyNumbers;
 use rules::Session;
+use rules::Timing;
 
 // What the tests of a call find: nothing against it, or the refusal.
 pub enum Verdict {
@@ -86,6 +88,17 @@ pub fn has_access(map: u32, operator: u32) -> bool
     ensures { λ r. ⌜ r ≡ bit map operator ⌝ }
 {
     operator < 32 && (map >> operator) % 2 == 1
+}
+
+// What the window of a call finds.
+pub fn window_verdict(timing: Timing) -> Verdict
+    ensures { λ r. ⌜ r ≡ windowVerdict timing ⌝ }
+{
+    match timing {
+        Timing::Early => Verdict::No(Answer::TooEarly),
+        Timing::Within => Verdict::Clear,
+        Timing::Late => Verdict::No(Answer::TooLate),
+    }
 }
 
 // ---- the paper's numbers

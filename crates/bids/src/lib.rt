@@ -14,6 +14,7 @@ ghost use Rattle.cells.specs.Layout.{PARTIES};
 ghost use Rattle.cells.specs.View.{cell, bookOf, directionAt};
 ghost use Rattle.answers.specs.Promises.{Answers};
 ghost use Rattle.bids.specs.Work.{Cleared, JudgedBid, Session-known, Searched, Placed};
+use answers::Verdict;
 use capacity::Search;
 use cells::Book;
 use rights::Entry;
@@ -114,10 +115,8 @@ fn bid_verdict(
         return BidVerdict::No(Answer::Unknown);
     }
     let model = tables::model_of(book, direction);
-    match timing(book, model, session, time) {
-        Timing::Early => return BidVerdict::No(Answer::TooEarly),
-        Timing::Late => return BidVerdict::No(Answer::TooLate),
-        Timing::Within => {}
+    if let Verdict::No(answer) = answers::window_verdict(timing(book, model, session, time)) {
+        return BidVerdict::No(answer);
     }
     if wrong_hours(book, model, session, mw) {
         return BidVerdict::No(Answer::Hours);

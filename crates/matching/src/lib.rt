@@ -58,10 +58,8 @@ fn match_verdict(book: &Book, time: u32, direction: u8, session: Session) -> Ver
         return Verdict::No(Answer::Unknown);
     }
     let model = tables::model_of(book, direction);
-    match timing(book, model, session, time) {
-        Timing::Early => return Verdict::No(Answer::TooEarly),
-        Timing::Late => return Verdict::No(Answer::TooLate),
-        Timing::Within => {}
+    if let Verdict::No(answer) = answers::window_verdict(timing(book, model, session, time)) {
+        return Verdict::No(answer);
     }
     if tables::is_matched(book, direction, session) {
         return Verdict::No(Answer::Cycle);

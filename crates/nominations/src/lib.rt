@@ -5,10 +5,10 @@ ghost use Rattle.rules.specs.Nominations.{outOf, intoOf};
 ghost use Rattle.pairs.specs.Search.{standingPair};
 ghost use Rattle.answers.specs.Promises.{Answers};
 ghost use Rattle.nominations.specs.Work.{Cleared, JudgedNomination, Placed};
+use answers::Verdict;
 use cells::Book;
 use cells::Found;
 use rules::Answer;
-use rules::Timing;
 
 // What the tests of a nomination find: nothing against it, with what the search for its pair found, or the refusal.
 enum NominationVerdict {
@@ -67,10 +67,9 @@ fn nomination_verdict(
     if nomination_tests::nomination_unknown(book, sender, other, right) {
         return NominationVerdict::No(Answer::Unknown);
     }
-    match nomination_tests::timing(book, right, time) {
-        Timing::Early => return NominationVerdict::No(Answer::TooEarly),
-        Timing::Late => return NominationVerdict::No(Answer::TooLate),
-        Timing::Within => {}
+    let timing = nomination_tests::timing(book, right, time);
+    if let Verdict::No(answer) = answers::window_verdict(timing) {
+        return NominationVerdict::No(answer);
     }
     if nomination_tests::lacking_hours(book, right, mw) {
         return NominationVerdict::No(Answer::Hours);

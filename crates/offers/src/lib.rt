@@ -55,10 +55,8 @@ fn direction_verdict(book: &Book, time: u32, direction: u8, hour: Hour, mw: u16)
         return Verdict::No(Answer::Unknown);
     }
     let model = tables::model_of(book, direction);
-    match timing(book, model, hour, time) {
-        Timing::Early => return Verdict::No(Answer::TooEarly),
-        Timing::Late => return Verdict::No(Answer::TooLate),
-        Timing::Within => {}
+    if let Verdict::No(answer) = answers::window_verdict(timing(book, model, hour, time)) {
+        return Verdict::No(answer);
     }
     if offer_below(book, direction, hour, mw) {
         return Verdict::No(Answer::Below);
@@ -78,10 +76,8 @@ fn profile_verdict(book: &Book, time: u32, profile: u8, hour: Hour, mw: u16) -> 
     if answers::profile_hour_unknown(book, profile, hour) {
         return Verdict::No(Answer::Unknown);
     }
-    match timing(book, 1, hour, time) {
-        Timing::Early => return Verdict::No(Answer::TooEarly),
-        Timing::Late => return Verdict::No(Answer::TooLate),
-        Timing::Within => {}
+    if let Verdict::No(answer) = answers::window_verdict(timing(book, 1, hour, time)) {
+        return Verdict::No(answer);
     }
     if offer_below(book, cells::PROFILE_ROW + profile, hour, mw) {
         return Verdict::No(Answer::Below);

@@ -18,6 +18,7 @@ use Rattle.rules.specs.Reads.{directionReadRefuses, readDirection, profi
 use Rattle.rules.specs.Records.{writerRefuses, writing, readerRefuses, reading}
 use Rattle.rules.specs.Demand1.{None, listed, EachOnce, First, granting, refusing, Demand1}
 use Rattle.rules.specs.declared.CallRecord.{CallRecord}
+use Rattle.rules.proofs.Listed.{Listed, calls-listed, openings-listed, directions-listed, profiles-listed, rights-listed, confirmed-listed, readers-listed, writers-listed}
 
 -- what is not 0 is a number whose condition holds
 pub refused-so : (f : ℕ → Bool) (ns : List ℕ) (n : ℕ) → firstOf f ns ≡ n → (n ≡ 0 → ⊥) → f n ≡ true
@@ -79,11 +80,29 @@ each-once : EachOnce listed
 unfolding has
 each-once = (refl, (refl, (refl, (refl, (refl, (refl, (refl, (refl, (refl, (refl, (refl, (refl, (refl, (refl, (refl, (refl, tt))))))))))))))))
 
-first : (f : ℕ → Bool) → First f (firstOf f order)
-first f = rw in-order (go (firstOf f listed) refl)
+-- one of the numbers; where the list unfolds, `tt` shows that n is in it
+pub at : (f : ℕ → Bool) (n : ℕ) (ns : List ℕ) → None f ns → T (has n ns) → f n ≡ false
+unfolding has
+at f n [] h t = absurd t
+at f n (m ∷ ms) h t = go (eqb m n) refl t (λ s. at f n ms (h .1) s)
+  where
+    go : (x : Bool) → eqb m n ≡ x → T (x || has n ms) → (T (has n ms) → f n ≡ false) → f n ≡ false
+    go true e s rest = subst (λ (k : ℕ). f k ≡ false) (eqb-true m n e) (h .0)
+    go false e s rest = rest s
+
+-- where every condition that can hold has its number in the list, what fails at each of the list fails at every number
+nowhere : (f : ℕ → Bool) → Listed f → None f listed → (n : ℕ) → f n ≡ false
+nowhere f l h n = go (f n) refl
+  where
+    go : (x : Bool) → f n ≡ x → f n ≡ false
+    go true p = at f n listed h (rw (l n p) tt)
+    go false p = p
+
+first : (f : ℕ → Bool) → Listed f → First f (firstOf f order)
+first f l = rw in-order (go (firstOf f listed) refl)
   where
     go : (n : ℕ) → firstOf f listed ≡ n → First f n
-    go zero e = granting (clear f listed tt e)
+    go zero e = granting (nowhere f l (clear f listed tt e))
     go (suc n) e = refusing (suc n) (found-among f listed (suc n) e (λ z. omega arith)) (refused-so f listed (suc n) e (λ z. omega arith)) (passed f listed (suc n) e)
 
 pub applied-number : (b : Book) (c : Call) → applied b c .reply .number ≡ number b c
@@ -112,15 +131,15 @@ demand1 =
     record {
       in-order = in-order;
       each-once = each-once;
-      calls = λ b c. rw (applied-number b c) (first (refuses b c));
+      calls = λ b c. rw (applied-number b c) (first (refuses b c) (calls-listed b c));
       calls-kept = applied-kept;
-      openings = λ n day. (first (openingRefuses n day), (refl, refl));
-      left-of-directions = λ b d hour. (first (directionReadRefuses b d hour), (refl, refl));
-      left-of-profiles = λ b p hour. (first (profileReadRefuses b p hour), (refl, refl));
-      rights = λ b r. (first (rightReadRefuses b r), (refl, refl));
-      confirmed = λ b r o i. (first (confirmedReadRefuses b r o i), (refl, refl));
-      readers = λ s. (first (readerRefuses s), (refl, refl));
-      writers = λ c buffer. first (writerRefuses c buffer);
+      openings = λ n day. (first (openingRefuses n day) (openings-listed n day), (refl, refl));
+      left-of-directions = λ b d hour. (first (directionReadRefuses b d hour) (directions-listed b d hour), (refl, refl));
+      left-of-profiles = λ b p hour. (first (profileReadRefuses b p hour) (profiles-listed b p hour), (refl, refl));
+      rights = λ b r. (first (rightReadRefuses b r) (rights-listed b r), (refl, refl));
+      confirmed = λ b r o i. (first (confirmedReadRefuses b r o i) (confirmed-listed b r o i), (refl, refl));
+      readers = λ s. (first (readerRefuses s) (readers-listed s), (refl, refl));
+      writers = λ c buffer. first (writerRefuses c buffer) (writers-listed c buffer);
       writers-kept = writing-kept;
     }
 
@@ -128,16 +147,6 @@ demand1 =
 
 pub record Granted (b : Book) (c : Call) : Type 0 where
   pub none : None (refuses b c) order
-
--- one of the numbers; where the list unfolds, `tt` shows that n is in it
-pub at : (f : ℕ → Bool) (n : ℕ) (ns : List ℕ) → None f ns → T (has n ns) → f n ≡ false
-unfolding has
-at f n [] h t = absurd t
-at f n (m ∷ ms) h t = go (eqb m n) refl t (λ s. at f n ms (h .1) s)
-  where
-    go : (x : Bool) → eqb m n ≡ x → T (x || has n ms) → (T (has n ms) → f n ≡ false) → f n ≡ false
-    go true e s rest = subst (λ (k : ℕ). f k ≡ false) (eqb-true m n e) (h .0)
-    go false e s rest = rest s
 
 -- the condition n fails where the call is granted; where `order` and `has` unfold, `tt` shows that n is in it
 pub fails : {b : Book} {c : Call} → Granted b c → (n : ℕ) → T (has n order) → refuses b c n ≡ false

@@ -1,5 +1,6 @@
 pub mod Bools
 pub mod Above
+pub mod Listed
 pub mod Decisions
 pub mod Histories
 pub mod Places

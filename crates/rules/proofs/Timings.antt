@@ -3,13 +3,14 @@
 use Prim.Native.Nat.{ℕ, _+_, _-_, _*_, _≤_, _<_}
 use mathlib.Core.Path.{_≡_, refl, ap}
 use mathlib.Core.Bool.{Bool, true, false, cond, _&&_, false≢true}
+use mathlib.Core.List.{List}
 use native.Mathlib.Omega.{arith}
 use lib.Dec.{eqb, leb, ltb}
 use borrow.Author.Tests.{leb-false, ltb-true, ltb-false, le-ltb}
 use Rattle.rules.specs.Sessions.{sessionThere, firstHour}
-use Rattle.rules.specs.Windows.{timing, gateHour, opens, bidsClose, matchingOpens, held, bidTiming, nominationTiming, offerTiming, matchingTiming}
+use Rattle.rules.specs.Windows.{timing, gateHour, opens, bidsClose, matchingOpens, holdBegins, holdEnds, held, bidTiming, nominationTiming, offerTiming, matchingTiming}
 use Rattle.rules.specs.Book.{Book, modelOf}
-use Rattle.rules.specs.Calls.{Call, Match}
+use Rattle.rules.specs.Calls.{Call, Bid, Match}
 use Rattle.rules.specs.Refusals.{timingOf, tooEarly, tooLate, refuses}
 use Rattle.rules.specs.Timings.{EarlyOrLate}
 use Rattle.rules.specs.declared.Timing.{Timing}
@@ -55,13 +56,17 @@ gate-hour-from weekday model hour h = go (eqb weekday 2 && eqb model 1 && ltb 21
     go true = omega arith
     go false = h
 
-closes-from : (n weekday model s : ℕ) → 23 ≤ n → sessionThere n model s ≡ true → 1290 ≤ bidsClose weekday model (firstHour n model s)
+held-is-early : (b : Book) (time p d session : ℕ) (mw : List ℕ) → held (b .weekday) time ≡ true → refuses b (Bid time p d session mw) 16 ≡ true
+unfolding refuses timingOf bidTiming
+held-is-early b time p d session mw e = rw e
+
+closes-from : (n weekday model s : ℕ) → 23 ≤ n → sessionThere n model s ≡ true → holdEnds ≤ bidsClose weekday model (firstHour n model s)
 unfolding bidsClose
 closes-from n weekday model s h t = let g = gate-hour-from weekday model (firstHour n model s) (first-hour-from n model s h t) in omega arith
 
-held-to : (weekday time : ℕ) → held weekday time ≡ true → time < 1290
+held-to : (weekday time : ℕ) → held weekday time ≡ true → time < holdEnds
 unfolding held
-held-to weekday time e = ltb-true time 1290 (and-right (eqb weekday 3 && leb 1170 time) _ e)
+held-to weekday time e = ltb-true time holdEnds (and-right (eqb weekday 3 && leb holdBegins time) _ e)
 
 held-before-close : (n weekday model s time : ℕ) → 23 ≤ n → sessionThere n model s ≡ true → held weekday time ≡ true
     → time < bidsClose weekday model (firstHour n model s)
@@ -73,20 +78,20 @@ held-before-close n weekday model s time h t e =
 -- ---- what is too late stays so
 
 -- late is at or after the opening and the close
-late-from : (opens closes time : ℕ) → timing opens closes time ≡ Late → (opens ≤ time) × (closes ≤ time)
+late-from : (opening closing time : ℕ) → timing opening closing time ≡ Late → (opening ≤ time) × (closing ≤ time)
 unfolding timing
-late-from opens closes time e = go (ltb time opens) refl (ltb time closes) refl
+late-from opening closing time e = go (ltb time opening) refl (ltb time closing) refl
   where
-    go : (p : Bool) → ltb time opens ≡ p → (q : Bool) → ltb time closes ≡ q → (opens ≤ time) × (closes ≤ time)
+    go : (p : Bool) → ltb time opening ≡ p → (q : Bool) → ltb time closing ≡ q → (opening ≤ time) × (closing ≤ time)
     go true a q b = absurd (false≢true (ap tooLate (rw (a, timing) at e)))
     go false a true b = absurd (false≢true (ap tooLate (rw (a, b, timing) at e)))
-    go false a false b = (ltb-false time opens a, ltb-false time closes b)
+    go false a false b = (ltb-false time opening a, ltb-false time closing b)
 
-stays-late : (opens closes time later : ℕ) → time ≤ later → timing opens closes time ≡ Late → timing opens closes later ≡ Late
+stays-late : (opening closing time later : ℕ) → time ≤ later → timing opening closing time ≡ Late → timing opening closing later ≡ Late
 unfolding timing
-stays-late opens closes time later l e =
-    let f = late-from opens closes time e in
-    rw (le-ltb later opens (omega (arith, f .0)), le-ltb later closes (omega (arith, f .1)))
+stays-late opening closing time later l e =
+    let f = late-from opening closing time e in
+    rw (le-ltb later opening (omega (arith, f .0)), le-ltb later closing (omega (arith, f .1)))
 
 -- a bid that is late is not held, now or later
 late-not-held : (n weekday model s time : ℕ) → bidTiming n weekday model s time ≡ Late → held weekday time ≡ false
@@ -124,6 +129,7 @@ early-or-late =
     record {
       never-both = never-both;
       matching-never-late = matching-never-late;
+      held-is-early = held-is-early;
       held-before-close = held-before-close;
       bids-stay-late = bids-stay-late;
       nominations-stay-late = λ n weekday model s time later. stays-late _ _ time later;

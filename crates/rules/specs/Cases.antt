@@ -6,7 +6,7 @@ use mathlib.Core.Bool.{Bool, cond}
 use mathlib.Core.List.{List, [], _∷_, _++_, map}
 use lib.ListN.{getD}
 use Rattle.rules.specs.Sessions.{firstHour, hoursIn}
-use Rattle.rules.specs.Windows.{bidsClose, bidTiming}
+use Rattle.rules.specs.Windows.{bidsClose, bidTiming, nominationTiming, offerTiming, matchingTiming}
 use Rattle.rules.specs.Codes.{charValue, weightedSum, isCode}
 use Rattle.rules.specs.Calls.{Call, AddDirection, AddProfile, AddParty, OfferDirection, OfferProfile, Bid, Nominate, Match, Reply}
 use Rattle.rules.specs.Run.{Run, run}
@@ -50,6 +50,10 @@ refusedBy Late = 8
 abbrev bidAt : ℕ → ℕ → ℕ → ℕ
 bidAt session minute weekday = refusedBy (bidTiming 24 weekday 1 session minute)
 
+-- the same for a window at each of some minutes
+abbrev atMinutes : (ℕ → Timing) → List ℕ → List ℕ
+atMinutes window minutes = map (λ (minute : ℕ). refusedBy (window minute)) minutes
+
 -- every weekday but Wednesday, and but Tuesday
 abbrev noWednesday : List ℕ
 noWednesday = 1 ∷ 2 ∷ 4 ∷ 5 ∷ 6 ∷ 7 ∷ []
@@ -89,20 +93,30 @@ due code = 36 - (weightedSum code - 1) % 37
 abbrev one : ℕ → List ℕ
 one mw = mw ∷ 0 ∷ 0 ∷ 0 ∷ 0 ∷ []
 
--- of 10 MW in hour 1 a minute before the hold; in hours 1 and 2 in its first minute, its last and after it
+-- bids of 10 MW in hour 1 a minute before the hold, and in hours 1 and 2 in its first minute, in its last and after it
 abbrev wednesdayHold : List Call
 wednesdayHold =
     AddDirection 0 4 1 ∷ AddParty ceps 1 ∷ OfferDirection 1000 0 1 100 ∷ OfferDirection 1000 0 2 100 ∷ Bid 1169 0 0 1 (one 10)
     ∷ Bid 1170 0 0 1 (one 10) ∷ Bid 1170 0 0 2 (one 10) ∷ Bid 1289 0 0 1 (one 10) ∷ Bid 1289 0 0 2 (one 10)
     ∷ Bid 1290 0 0 1 (one 10) ∷ Bid 1290 0 0 2 (one 10) ∷ []
 
--- party 1 has no access; the bids at 1,079 ask 60, 101 and 0 MW and 60 by party 1, then 101 and 0 MW and 60 by party 1 again at 1,080
+-- bids of 60, 101 and 0 MW, and of 60 by party 1, which has no access, at 1,079; there one on a direction that isn't there; most again at 1,080 and 1,290
 abbrev earlyAndLate : List Call
 earlyAndLate =
     AddDirection 0 4 1 ∷ AddParty ceps 1 ∷ AddParty (uni 86) 2 ∷ OfferDirection 959 0 1 100 ∷ OfferDirection 960 0 1 100
     ∷ Bid 1079 0 0 1 (one 60) ∷ Bid 1079 0 0 1 (one 101) ∷ Bid 1079 0 0 1 (one 0) ∷ Bid 1079 1 0 1 (one 60)
-    ∷ Bid 1080 0 0 1 (one 101) ∷ Bid 1080 0 0 1 (one 0) ∷ Bid 1080 1 0 1 (one 60)
-    ∷ Bid 1289 0 0 1 (one 60) ∷ Bid 1290 0 0 1 (one 10) ∷ Bid 1079 0 0 1 (one 10) ∷ []
+    ∷ Bid 1079 0 1 1 (one 60) ∷ Bid 1080 0 0 1 (one 101) ∷ Bid 1080 0 0 1 (one 0) ∷ Bid 1080 1 0 1 (one 60)
+    ∷ Bid 1289 0 0 1 (one 60) ∷ Bid 1290 0 0 1 (one 10) ∷ Bid 1290 0 0 1 (one 101) ∷ Bid 1290 0 0 1 (one 0) ∷ Bid 1290 1 0 1 (one 60)
+    ∷ Bid 1079 0 0 1 (one 10) ∷ []
+
+-- session 2 of the four-hour model, hours 5 to 8, at each of its gates; a profile's hour 8 closes as a one-hour session does
+abbrev fourHourSession : List Call
+fourHourSession =
+    AddDirection 0 4 4 ∷ AddDirection 0 1 4 ∷ AddProfile 3 ∷ AddParty ceps 1
+    ∷ OfferProfile 959 0 5 50 ∷ OfferProfile 960 0 5 50 ∷ OfferDirection 960 0 5 50
+    ∷ Bid 1319 0 0 2 (one 10) ∷ Bid 1320 0 0 2 (one 10) ∷ Bid 1529 0 0 2 (one 10) ∷ Bid 1530 0 0 2 (one 10)
+    ∷ OfferDirection 1530 0 8 50 ∷ OfferProfile 1530 0 8 50
+    ∷ Nominate 1589 0 0 0 0 (one 20) ∷ Nominate 1590 0 0 0 0 (one 20) ∷ Match 1634 0 2 ∷ Match 1635 0 2 ∷ []
 
 abbrev fourHours : List Call
 fourHours =
@@ -168,14 +182,33 @@ cases =
       computed = numbersOf (run (opening 24 3 .book) wednesdayHold .replies);
       said = 0 ∷ 0 ∷ 0 ∷ 0 ∷ 0 ∷ 0 ∷ 0 ∷ 100 ∷ 0 ∷ 0 ∷ 100 ∷ 0 ∷ 0 ∷ 0 ∷ 0 ∷ 16 ∷ 0 ∷ 0 ∷ 16 ∷ 0 ∷ 0 ∷ 16 ∷ 0 ∷ 0 ∷ 16 ∷ 0 ∷ 0 ∷ 8 ∷ 0 ∷ 0 ∷ 0 ∷ 1 ∷ 0 ∷ [];
     }
-    -- an offer at 959 is too early; so is a bid at 1,079, also where it is short, all zero or without access; at 1,290 it is too late, and then 5 comes before 16
+    -- an offer at 959 is too early; so is a bid at 1,079, also where it is short, all zero or without access, and at 1,290 it is too late; 6 and 5 come before 16
     ∷ record {
       computed = numbersOf (monday earlyAndLate .replies);
       said =
           0 ∷ 0 ∷ 0 ∷ 0 ∷ 0 ∷ 0 ∷ 0 ∷ 1 ∷ 0 ∷ 16 ∷ 0 ∷ 0 ∷ 0 ∷ 100 ∷ 0
-          ∷ 16 ∷ 0 ∷ 0 ∷ 16 ∷ 0 ∷ 0 ∷ 16 ∷ 0 ∷ 0 ∷ 16 ∷ 0 ∷ 0
-          ∷ 15 ∷ 1 ∷ 0 ∷ 9 ∷ 0 ∷ 0 ∷ 10 ∷ 0 ∷ 0 ∷ 0 ∷ 0 ∷ 0 ∷ 8 ∷ 0 ∷ 0 ∷ 5 ∷ 0 ∷ 0 ∷ [];
+          ∷ 16 ∷ 0 ∷ 0 ∷ 16 ∷ 0 ∷ 0 ∷ 16 ∷ 0 ∷ 0 ∷ 16 ∷ 0 ∷ 0 ∷ 6 ∷ 0 ∷ 0
+          ∷ 15 ∷ 1 ∷ 0 ∷ 9 ∷ 0 ∷ 0 ∷ 10 ∷ 0 ∷ 0 ∷ 0 ∷ 0 ∷ 0 ∷ 8 ∷ 0 ∷ 0 ∷ 8 ∷ 0 ∷ 0 ∷ 8 ∷ 0 ∷ 0 ∷ 8 ∷ 0 ∷ 0 ∷ 5 ∷ 0 ∷ 0 ∷ [];
     }
+    -- each window of a four-hour session, a minute before its opening and on
+    ∷ record {
+      computed = numbersOf (monday fourHourSession .replies);
+      said =
+          0 ∷ 0 ∷ 0 ∷ 0 ∷ 1 ∷ 0 ∷ 0 ∷ 0 ∷ 0 ∷ 0 ∷ 0 ∷ 0 ∷ 16 ∷ 0 ∷ 0 ∷ 0 ∷ 50 ∷ 0 ∷ 0 ∷ 50 ∷ 0
+          ∷ 16 ∷ 0 ∷ 0 ∷ 0 ∷ 0 ∷ 0 ∷ 0 ∷ 0 ∷ 0 ∷ 8 ∷ 0 ∷ 0 ∷ 8 ∷ 0 ∷ 0 ∷ 0 ∷ 50 ∷ 0
+          ∷ 0 ∷ 0 ∷ 0 ∷ 8 ∷ 0 ∷ 0 ∷ 16 ∷ 0 ∷ 0 ∷ 0 ∷ 1 ∷ 0 ∷ [];
+    }
+    -- nominations, offers and matching of hour 1 on a Monday
+    ∷ record { computed = atMinutes (nominationTiming 24 1 1 1) (1079 ∷ 1080 ∷ 1349 ∷ 1350 ∷ []); said = 16 ∷ 0 ∷ 0 ∷ 8 ∷ [] }
+    ∷ record { computed = atMinutes (offerTiming 24 1 1 1) (959 ∷ 960 ∷ 1289 ∷ 1290 ∷ []); said = 16 ∷ 0 ∷ 0 ∷ 8 ∷ [] }
+    ∷ record { computed = atMinutes (matchingTiming 24 1 1 1) (1394 ∷ 1395 ∷ 2999 ∷ []); said = 16 ∷ 0 ∷ 0 ∷ [] }
+    -- a Tuesday: sessions 22 and 23 for bids, 24 for nominations, offers and matching
+    ∷ record { computed = atMinutes (bidTiming 24 2 1 22) (2489 ∷ 2490 ∷ []) ++ atMinutes (bidTiming 24 2 1 23) (2489 ∷ 2490 ∷ []); said = 0 ∷ 8 ∷ 0 ∷ 8 ∷ [] }
+    ∷ record { computed = atMinutes (nominationTiming 24 2 1 24) (2549 ∷ 2550 ∷ []) ++ atMinutes (offerTiming 24 2 1 24) (2489 ∷ 2490 ∷ []); said = 0 ∷ 8 ∷ 0 ∷ 8 ∷ [] }
+    ∷ record { computed = atMinutes (matchingTiming 24 2 1 24) (2594 ∷ 2595 ∷ []); said = 16 ∷ 0 ∷ [] }
+    -- a Wednesday: the hold is of four-hour sessions too, and of bids only
+    ∷ record { computed = atMinutes (bidTiming 24 3 4 1) (1169 ∷ 1170 ∷ 1289 ∷ 1290 ∷ []); said = 0 ∷ 16 ∷ 16 ∷ 8 ∷ [] }
+    ∷ record { computed = atMinutes (nominationTiming 24 3 1 1) (1170 ∷ 1289 ∷ []) ++ atMinutes (offerTiming 24 3 1 1) (1170 ∷ 1289 ∷ []); said = 0 ∷ 0 ∷ 0 ∷ 0 ∷ [] }
     -- the record of a bid, and the call read from it
     ∷ record { computed = recordOf bidRecord; said = bidBytes }
     ∷ record { computed = reading bidBytes .reply .number ∷ reading bidBytes .length ∷ fieldsOf (reading bidBytes .call); said = 0 ∷ 10 ∷ fieldsOf bidRecord }

@@ -30,9 +30,9 @@ abbrev pub EachOnce : List ℕ → Type 0
 EachOnce [] = Unit {0}
 EachOnce (n ∷ ns) = (has n ns ≡ false) × EachOnce ns
 
--- the reply's number, by the conditions f: 0 and no condition holds, or n is listed, its condition holds and none before it in the list does
+-- the reply's number, by the conditions f: 0 and no condition at all holds, or n is listed, its condition holds and none before it in the list does
 pub data First (f : ℕ → Bool) : ℕ → Type 0 where
-  granting : None f listed → First f 0
+  granting : ((n : ℕ) → f n ≡ false) → First f 0
   refusing : (n : ℕ) → has n listed ≡ true → f n ≡ true → None f (before n listed) → First f n
 
 -- the same of a whole reply, whose details are both 0

@@ -129,11 +129,13 @@ timingOf b (Nominate time sender other r side mw) =
     nominationTiming (b .hours) (b .weekday) (modelOf b (x .direction)) (x .session) time
 timingOf b (Match time d session) = matchingTiming (b .hours) (b .weekday) (modelOf b d) session time
 
+-- 16: before the opening, or a bid in the Wednesday hold
 abbrev pub tooEarly : Timing → Bool
 tooEarly Early = true
 tooEarly Within = false
 tooEarly Late = false
 
+-- 8: at or after the close
 abbrev pub tooLate : Timing → Bool
 tooLate Early = false
 tooLate Within = false

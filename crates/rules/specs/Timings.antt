@@ -3,10 +3,11 @@
 use Prim.Native.Nat.{ℕ, _≤_, _<_}
 use mathlib.Core.Path.{_≡_}
 use mathlib.Core.Bool.{true, false, _&&_}
+use mathlib.Core.List.{List}
 use Rattle.rules.specs.Sessions.{sessionThere, firstHour}
 use Rattle.rules.specs.Windows.{bidsClose, held, bidTiming, nominationTiming, offerTiming}
 use Rattle.rules.specs.Book.{Book}
-use Rattle.rules.specs.Calls.{Call, Match}
+use Rattle.rules.specs.Calls.{Call, Bid, Match}
 use Rattle.rules.specs.Refusals.{refuses}
 use Rattle.rules.specs.declared.Timing.the-variants.{Late}
 
@@ -15,7 +16,9 @@ pub record EarlyOrLate : Type 0 where
   pub never-both : (b : Book) (c : Call) → (refuses b c 16 && refuses b c 8) ≡ false
   -- a matching is never late
   pub matching-never-late : (b : Book) (time d session : ℕ) → refuses b (Match time d session) 8 ≡ false
-  -- the Wednesday hold ends before any session's bids have closed, so a bid in it is never late
+  -- a bid in the Wednesday hold is too early, whatever its session
+  pub held-is-early : (b : Book) (time p d session : ℕ) (mw : List ℕ) → held (b .weekday) time ≡ true → refuses b (Bid time p d session mw) 16 ≡ true
+  -- on a day of 01, which has 23 hours or more, each minute of the hold is before the close of any session's bids, so the close decides on none of these bids
   pub held-before-close : (n weekday model session time : ℕ) → 23 ≤ n → sessionThere n model session ≡ true → held weekday time ≡ true
       → time < bidsClose weekday model (firstHour n model session)
   -- what is too late stays so

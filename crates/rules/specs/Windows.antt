@@ -13,7 +13,7 @@ latest = 2999
 
 -- where a time stands to a window, which holds its first minute and not its last
 unfoldable pub timing : ℕ → ℕ → ℕ → Timing
-timing opens closes time = cond (ltb time opens) Early (cond (ltb time closes) Within Late)
+timing opening closing time = cond (ltb time opening) Early (cond (ltb time closing) Within Late)
 
 -- on a Tuesday the one-hour sessions 22, 23 and 24 close, and open for matching, as session 21 does
 unfoldable pub gateHour : ℕ → ℕ → ℕ → ℕ
@@ -38,8 +38,14 @@ unfoldable pub matchingOpens : ℕ → ℕ → ℕ → ℕ
 matchingOpens weekday model hour = 1335 + 60 * gateHour weekday model hour
 
 -- a Wednesday book grants no bid from 1,170 up to and not at 1,290
+abbrev pub holdBegins : ℕ
+holdBegins = 1170
+
+abbrev pub holdEnds : ℕ
+holdEnds = 1290
+
 unfoldable pub held : ℕ → ℕ → Bool
-held weekday time = eqb weekday 3 && leb 1170 time && ltb time 1290
+held weekday time = eqb weekday 3 && leb holdBegins time && ltb time holdEnds
 
 -- ---- each window, of a day with n hours and a weekday (Monday 1 to Sunday 7)
 

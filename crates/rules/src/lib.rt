@@ -27,7 +27,7 @@ pub enum CapacityOf {
     Profile(u8),
 }
 
-// The answer to a call: granted with its detail, or the refusal by its trade word, in the order in which they are asked.
+// The answer to a call: granted with its detail, or a refusal by its trade word. The refusals stand in the order in which they are asked.
 pub enum Answer {
     Granted(u32),
     Record,

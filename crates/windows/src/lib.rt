@@ -21,7 +21,7 @@ const NOMINATIONS_CLOSE: u32 = 1290;
 const MATCHING_OPENS: u32 = 1335;
 
 // A window holds the minute at which it opens and not the one at which it closes.
-fn time_in(opening: u32, closing: u32, time: u32) -> Timing
+fn window_timing(opening: u32, closing: u32, time: u32) -> Timing
     ensures { λ r. ⌜ r ≡ timing opening closing time ⌝ }
 {
     if time < opening {
@@ -83,7 +83,7 @@ fn session_timing(
     let first = day::first_number(hours, model, session);
     let opening = session_opens(model, first);
     let closing = gate_time(minute, weekday, model, first);
-    time_in(opening, closing, time)
+    window_timing(opening, closing, time)
 }
 
 // The hold on the bids of a Wednesday book.
@@ -118,7 +118,7 @@ pub fn offer_timing(hours: u8, weekday: u32, model: u32, hour: Hour, time: u32) 
 {
     let first = day::first_number(hours, model, day::session_of(hours, model, hour));
     let closing = gate_time(BIDS_CLOSE, weekday, model, first);
-    time_in(OFFERS_OPEN, closing, time)
+    window_timing(OFFERS_OPEN, closing, time)
 }
 
 // A matching is never late.

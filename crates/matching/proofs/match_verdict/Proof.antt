@@ -2,7 +2,7 @@
 -- Assumes nothing.
 use borrow.Author.Needs.{needs}
 use Prim.Native.Nat.{ℕ}
-use mathlib.Core.Path.{_≡_, refl, sym, _∙_}
+use mathlib.Core.Path.{_≡_, refl, subst}
 use mathlib.Core.List.{List, [], _∷_}
 use denote.Ref.{now}
 use Rattle.rules.specs.Calls.{Match}
@@ -10,7 +10,7 @@ use Rattle.rules.specs.Refusals.{refuses, field, clock, unknown, timingOf, cycl
 use Rattle.rules.specs.Details.{refusal}
 use Rattle.rules.specs.declared.Answer.the-variants.{Field, Clock, Unknown, Cycle}
 use Rattle.cells.specs.View.{bookOf}
-use Rattle.answers.proofs.Laws.{Left, pass, refuse, too-early, too-late, in-window, none-left, told}
+use Rattle.answers.proofs.Laws.{Left, pass, refuse, ByWindow, by-window, none-left, told}
 use Rattle.matching.proofs.Tests.{match-left, KnownMatch, known-match}
 use Rattle.matching.proofs.match_verdict.Statement.{statement}
 use Rattle.matching.proofs.match_verdict.Tie as tie
@@ -39,12 +39,15 @@ knows : (c : tie.Else3) → let a = c .before .before .before .before .before .b
 knows c = known-match _ _ _ (told (c .before .match-unknown .ensures) (c .if3 .left))
 
 -- the window, by the model read from the cells, says what the rules do
-timing-is : (c : tie.After-timing) → let a = c .before .before .before .before .before .before .before .before .args in timingOf (bookOf (now (a .book))) (Match (a .time) (a .direction) (a .session .0)) ≡ c .timing .result
+timing-is : (c : tie.After-timing) → let a = c .before .before .before .before .before .before .before .before .args in c .timing .result ≡ timingOf (bookOf (now (a .book))) (Match (a .time) (a .direction) (a .session .0))
 unfolding timingOf
-timing-is c = rw (knows (c .before .before) .model-is, ← c .before .model-of .ensures) (sym (c .timing .ensures))
+timing-is c = rw (knows (c .before .before) .model-is, ← c .before .model-of .ensures) (c .timing .ensures)
 
-after4 : (c : tie.After-enum-told3) → To (c .before .before .before .before .before .before .before .before .before .before) (12 ∷ [])
-after4 c = in-window (after3 (c .before .before .before .before)) (timing-is (c .before .before) ∙ c .enum-told3 .given .1)
+found : (c : tie.After-window-verdict) → let a = c .before .before .before .before .before .before .before .before .before .args in ByWindow (bookOf (now (a .book))) (Match (a .time) (a .direction) (a .session .0)) (12 ∷ []) (c .window-verdict .result)
+found c = rw (c .window-verdict .ensures) (by-window (after3 (c .before .before .before)) (timing-is (c .before)))
+
+after4 : (c : tie.After-enum-told) → To (c .before .before .before .before .before .before .before .before .before .before .before) (12 ∷ [])
+after4 c = subst (ByWindow _ _ _) (c .enum-told .given .1) (found (c .before .before))
 
 returns : tie.Need-returns
 unfolding refuses field refusal
@@ -59,18 +62,15 @@ unfolding refuses unknown refusal
 returns-3 c = refuse Unknown (after2 (c .before .before)) (told (c .before .match-unknown .ensures) (c .if3 .taken)) refl refl
 
 returns-4 : tie.Need-returns-4
-returns-4 c = too-early (after3 (c .before .before .before .before)) (timing-is (c .before .before) ∙ c .enum-told .given .1)
+returns-4 c = subst (ByWindow _ _ _) (c .before .answer .given .1) (found (c .before .before .before))
 
 returns-5 : tie.Need-returns-5
-returns-5 c = too-late (after3 (c .before .before .before .before)) (timing-is (c .before .before) ∙ c .enum-told2 .given .1)
+unfolding refuses cycle refusal
+returns-5 c = refuse Cycle (after4 (c .before .before)) (told (c .before .is-matched .ensures) (c .if4 .taken)) refl refl
 
 returns-6 : tie.Need-returns-6
-unfolding refuses cycle refusal
-returns-6 c = refuse Cycle (after4 (c .before .before)) (told (c .before .is-matched .ensures) (c .if4 .taken)) refl refl
-
-returns-7 : tie.Need-returns-7
 unfolding refuses cycle
-returns-7 c = none-left (pass (after4 (c .before .before)) (told (c .before .is-matched .ensures) (c .if4 .left)))
+returns-6 c = none-left (pass (after4 (c .before .before)) (told (c .before .is-matched .ensures) (c .if4 .left)))
 
 pub match-verdict-spec : {M : Type 1} → statement M
 match-verdict-spec =
@@ -84,11 +84,10 @@ match-verdict-spec =
     returns-3
     (λ c κs. knows c .direction)
     (λ c κs. search needs)
+    (λ c κs. search needs)
     (λ c. search needs)
     returns-4
     (λ c. search needs)
-    returns-5
-    (λ c. search needs)
     (λ c κs. search needs)
-    returns-6
-    returns-7)
+    returns-5
+    returns-6)

@@ -1,7 +1,7 @@
 -- `nominations::nomination_verdict` meets its contract: each test passed leaves fewer numbers, and one that holds is the first.
 -- Assumes nothing.
 use Prim.Native.Nat.{ℕ}
-use mathlib.Core.Path.{_≡_, refl, sym, _∙_}
+use mathlib.Core.Path.{_≡_, refl, subst}
 use mathlib.Core.List.{List, [], _∷_}
 use denote.Ref.{now}
 use Rattle.rules.specs.Calls.{Nominate}
@@ -9,7 +9,7 @@ use Rattle.rules.specs.Refusals.{refuses, field, clock, unknown, timingOf, wron
 use Rattle.rules.specs.Details.{refusal}
 use Rattle.rules.specs.declared.Answer.the-variants.{Field, Clock, Unknown, Hours, Access, Owner, Full}
 use Rattle.cells.specs.View.{bookOf}
-use Rattle.answers.proofs.Laws.{Left, pass, refuse, too-early, too-late, in-window, none-left, told}
+use Rattle.answers.proofs.Laws.{Left, pass, refuse, ByWindow, by-window, none-left, told}
 use Rattle.pairs.proofs.Pairs.{full-is}
 use Rattle.nominations.proofs.Verdicts.{nomination-left, KnownNomination, known-nomination}
 use borrow.Author.Needs.{needs}
@@ -39,22 +39,25 @@ after3 c = pass (after2 (c .before .before)) (told (c .before .nomination-unknow
 knows : (c : tie.Else3) → let a = c .before .before .before .before .before .before .args in KnownNomination (now (a .book)) (a .sender) (a .right)
 knows c = known-nomination _ _ _ _ (told (c .before .nomination-unknown .ensures) (c .if3 .left))
 
-timing-is : (c : tie.After-timing) → let a = c .before .before .before .before .before .before .before .args in timingOf (bookOf (now (a .book))) (Nominate (a .time) (a .sender) (a .other) (a .right) (a .side) (a .mw)) ≡ c .timing .result
+timing-is : (c : tie.After-timing) → let a = c .before .before .before .before .before .before .before .args in c .timing .result ≡ timingOf (bookOf (now (a .book))) (Nominate (a .time) (a .sender) (a .other) (a .right) (a .side) (a .mw))
 unfolding timingOf
-timing-is c = sym (c .timing .ensures)
+timing-is c = c .timing .ensures
 
-after4 : (c : tie.After-enum-told3) → To (c .before .before .before .before .before .before .before .before .before) (9 ∷ 10 ∷ 11 ∷ 13 ∷ [])
-after4 c = in-window (after3 (c .before .before .before)) (timing-is (c .before .before) ∙ c .enum-told3 .given .1)
+found : (c : tie.After-window-verdict) → let a = c .before .before .before .before .before .before .before .before .args in ByWindow (bookOf (now (a .book))) (Nominate (a .time) (a .sender) (a .other) (a .right) (a .side) (a .mw)) (9 ∷ 10 ∷ 11 ∷ 13 ∷ []) (c .window-verdict .result)
+found c = rw (c .window-verdict .ensures) (by-window (after3 (c .before .before)) (timing-is (c .before)))
 
-after5 : (c : tie.Else4) → To (c .before .before .before .before .before .before .before .before .before .before .before) (10 ∷ 11 ∷ 13 ∷ [])
+after4 : (c : tie.After-enum-told) → To (c .before .before .before .before .before .before .before .before .before .before) (9 ∷ 10 ∷ 11 ∷ 13 ∷ [])
+after4 c = subst (ByWindow _ _ _) (c .enum-told .given .1) (found (c .before .before))
+
+after5 : (c : tie.Else4) → To (c .before .before .before .before .before .before .before .before .before .before .before .before) (10 ∷ 11 ∷ 13 ∷ [])
 unfolding refuses wrongHours
 after5 c = pass (after4 (c .before .before)) (told (c .before .lacking-hours .ensures) (c .if4 .left))
 
-after6 : (c : tie.Else5) → To (c .before .before .before .before .before .before .before .before .before .before .before .before .before) (11 ∷ 13 ∷ [])
+after6 : (c : tie.Else5) → To (c .before .before .before .before .before .before .before .before .before .before .before .before .before .before) (11 ∷ 13 ∷ [])
 unfolding refuses noAccess
 after6 c = pass (after5 (c .before .before)) (told (c .before .no-access .ensures) (c .if5 .left))
 
-after7 : (c : tie.Else6) → To (c .before .before .before .before .before .before .before .before .before .before .before .before .before .before .before) (13 ∷ [])
+after7 : (c : tie.Else6) → To (c .before .before .before .before .before .before .before .before .before .before .before .before .before .before .before .before) (13 ∷ [])
 unfolding refuses notOwner
 after7 c = pass (after6 (c .before .before)) (told (c .before .not-owner .ensures) (c .if6 .left))
 
@@ -74,41 +77,38 @@ timing-requires : tie.Need-timing-requires
 timing-requires c κs = knows c .right
 
 returns-4 : tie.Need-returns-4
-returns-4 c = too-early (after3 (c .before .before .before)) (timing-is (c .before .before) ∙ c .enum-told .given .1)
-
-returns-5 : tie.Need-returns-5
-returns-5 c = too-late (after3 (c .before .before .before)) (timing-is (c .before .before) ∙ c .enum-told2 .given .1)
+returns-4 c = subst (ByWindow _ _ _) (c .before .answer .given .1) (found (c .before .before .before))
 
 lacking-hours-requires : tie.Need-lacking-hours-requires
-lacking-hours-requires c κs = knows (c .before .before .before) .right
+lacking-hours-requires c κs = knows (c .before .before .before .before) .right
 
-returns-6 : tie.Need-returns-6
+returns-5 : tie.Need-returns-5
 unfolding refuses wrongHours refusal
-returns-6 c = refuse Hours (after4 (c .before .before)) (told (c .before .lacking-hours .ensures) (c .if4 .taken)) refl refl
+returns-5 c = refuse Hours (after4 (c .before .before)) (told (c .before .lacking-hours .ensures) (c .if4 .taken)) refl refl
 
 no-access-requires : tie.Need-no-access-requires
-no-access-requires c κs = (knows (c .before .before .before .before .before) .sender, knows (c .before .before .before .before .before) .right)
+no-access-requires c κs = (knows (c .before .before .before .before .before .before) .sender, knows (c .before .before .before .before .before .before) .right)
 
-returns-7 : tie.Need-returns-7
+returns-6 : tie.Need-returns-6
 unfolding refuses noAccess refusal
-returns-7 c = refuse Access (after5 (c .before .before)) (told (c .before .no-access .ensures) (c .if5 .taken)) refl refl
+returns-6 c = refuse Access (after5 (c .before .before)) (told (c .before .no-access .ensures) (c .if5 .taken)) refl refl
 
 not-owner-requires : tie.Need-not-owner-requires
-not-owner-requires c κs = knows (c .before .before .before .before .before .before .before) .right
+not-owner-requires c κs = knows (c .before .before .before .before .before .before .before .before) .right
+
+returns-7 : tie.Need-returns-7
+unfolding refuses notOwner refusal
+returns-7 c = refuse Owner (after6 (c .before .before)) (told (c .before .not-owner .ensures) (c .if6 .taken)) refl refl
 
 returns-8 : tie.Need-returns-8
-unfolding refuses notOwner refusal
-returns-8 c = refuse Owner (after6 (c .before .before)) (told (c .before .not-owner .ensures) (c .if6 .taken)) refl refl
-
-returns-9 : tie.Need-returns-9
 unfolding refuses full refusal
-returns-9 c =
+returns-8 c =
     let s = c .before .before in
     refuse Full (after7 (s .before)) (full-is _ _ _ _ (s .nominated-pair .ensures) (told (c .before .pairs-full .ensures) (c .if7 .taken))) refl refl
 
-returns-10 : tie.Need-returns-10
+returns-9 : tie.Need-returns-9
 unfolding refuses full
-returns-10 c =
+returns-9 c =
     let s = c .before .before in
     let h = told (c .before .pairs-full .ensures) (c .if7 .left) in
     record {
@@ -127,18 +127,17 @@ nomination-verdict-spec =
     (λ c κs. search needs)
     returns-3
     timing-requires
+    (λ c κs. search needs)
     (λ c. search needs)
     returns-4
     (λ c. search needs)
-    returns-5
-    (λ c. search needs)
     lacking-hours-requires
-    returns-6
+    returns-5
     no-access-requires
-    returns-7
+    returns-6
     not-owner-requires
+    returns-7
+    (λ c κs. search needs)
+    (λ c κs. search needs)
     returns-8
-    (λ c κs. search needs)
-    (λ c κs. search needs)
-    returns-9
-    returns-10)
+    returns-9)

@@ -2,7 +2,7 @@
 -- Assumes nothing.
 use borrow.Author.Needs.{needs}
 use Prim.Native.Nat.{ℕ}
-use mathlib.Core.Path.{_≡_, refl, sym, _∙_}
+use mathlib.Core.Path.{_≡_, refl, subst}
 use mathlib.Core.List.{List, [], _∷_}
 use native.Mathlib.Omega.{arith}
 use denote.Ref.{now}
@@ -11,7 +11,7 @@ use Rattle.rules.specs.Refusals.{refuses, field, clock, unknown, timingOf, belo
 use Rattle.rules.specs.Details.{refusal}
 use Rattle.cells.specs.View.{bookOf}
 use Rattle.rules.specs.declared.Answer.the-variants.{Field, Clock, Unknown, Below}
-use Rattle.answers.proofs.Laws.{Left, pass, refuse, too-early, too-late, in-window, none-left, told}
+use Rattle.answers.proofs.Laws.{Left, pass, refuse, ByWindow, by-window, none-left, told}
 use Rattle.cells.proofs.Views.{KnownProfile, known-profile}
 use Rattle.offers.proofs.Offers.{profile-left}
 use Rattle.offers.proofs.profile_verdict.Statement.{statement}
@@ -40,12 +40,15 @@ after3 c = pass (after2 (c .before .before)) (told (c .before .profile-hour-unkn
 knows : (c : tie.Else3) → let a = c .before .before .before .before .before .before .args in KnownProfile (now (a .book)) (a .profile) (a .hour .0)
 knows c = known-profile _ _ _ (told (c .before .profile-hour-unknown .ensures) (c .if3 .left))
 
-timing-is : (c : tie.After-timing) → let a = c .before .before .before .before .before .before .before .args in timingOf (bookOf (now (a .book))) (OfferProfile (a .time) (a .profile) (a .hour .0) (a .mw)) ≡ c .timing .result
+timing-is : (c : tie.After-timing) → let a = c .before .before .before .before .before .before .before .args in c .timing .result ≡ timingOf (bookOf (now (a .book))) (OfferProfile (a .time) (a .profile) (a .hour .0) (a .mw))
 unfolding timingOf
-timing-is c = sym (c .timing .ensures)
+timing-is c = c .timing .ensures
 
-after4 : (c : tie.After-enum-told3) → To (c .before .before .before .before .before .before .before .before .before) (14 ∷ [])
-after4 c = in-window (after3 (c .before .before .before)) (timing-is (c .before .before) ∙ c .enum-told3 .given .1)
+found : (c : tie.After-window-verdict) → let a = c .before .before .before .before .before .before .before .before .args in ByWindow (bookOf (now (a .book))) (OfferProfile (a .time) (a .profile) (a .hour .0) (a .mw)) (14 ∷ []) (c .window-verdict .result)
+found c = rw (c .window-verdict .ensures) (by-window (after3 (c .before .before)) (timing-is (c .before)))
+
+after4 : (c : tie.After-enum-told) → To (c .before .before .before .before .before .before .before .before .before .before) (14 ∷ [])
+after4 c = subst (ByWindow _ _ _) (c .enum-told .given .1) (found (c .before .before))
 
 returns : tie.Need-returns
 unfolding refuses field refusal
@@ -60,18 +63,15 @@ unfolding refuses unknown refusal
 returns-3 c = refuse Unknown (after2 (c .before .before)) (told (c .before .profile-hour-unknown .ensures) (c .if3 .taken)) refl refl
 
 returns-4 : tie.Need-returns-4
-returns-4 c = too-early (after3 (c .before .before .before)) (timing-is (c .before .before) ∙ c .enum-told .given .1)
+returns-4 c = subst (ByWindow _ _ _) (c .before .answer .given .1) (found (c .before .before .before))
 
 returns-5 : tie.Need-returns-5
-returns-5 c = too-late (after3 (c .before .before .before)) (timing-is (c .before .before) ∙ c .enum-told2 .given .1)
+unfolding refuses below refusal
+returns-5 c = refuse Below (after4 (c .before .before)) (told (c .before .offer-below .ensures) (c .if4 .taken)) refl refl
 
 returns-6 : tie.Need-returns-6
-unfolding refuses below refusal
-returns-6 c = refuse Below (after4 (c .before .before)) (told (c .before .offer-below .ensures) (c .if4 .taken)) refl refl
-
-returns-7 : tie.Need-returns-7
 unfolding refuses below
-returns-7 c = none-left (pass (after4 (c .before .before)) (told (c .before .offer-below .ensures) (c .if4 .left)))
+returns-6 c = none-left (pass (after4 (c .before .before)) (told (c .before .offer-below .ensures) (c .if4 .left)))
 
 pub profile-verdict-spec : {M : Type 1} → statement M
 profile-verdict-spec =
@@ -84,12 +84,11 @@ profile-verdict-spec =
     (λ c κs. search needs)
     returns-3
     (λ c κs. search needs)
+    (λ c κs. search needs)
     (λ c. search needs)
     returns-4
     (λ c. search needs)
+    (λ c. let k = knows (c .before .before .before .before) .profile in omega arith)
+    (λ c κs. knows (c .before .before .before .before) .row)
     returns-5
-    (λ c. search needs)
-    (λ c. let k = knows (c .before .before .before) .profile in omega arith)
-    (λ c κs. knows (c .before .before .before) .row)
-    returns-6
-    returns-7)
+    returns-6)

@@ -7,7 +7,7 @@ use Rattle.windows.proofs.offer_timing.Tie as tie
 
 returns : tie.Need-returns
 unfolding offerTiming bidsClose
-returns c = rw (c .time-in .ensures, c .before .gate-time .ensures, c .before .before .first-number .ensures .0, c .before .before .before .session-of .ensures)
+returns c = rw (c .window-timing .ensures, c .before .gate-time .ensures, c .before .before .first-number .ensures .0, c .before .before .before .session-of .ensures)
 
 pub offer-timing-spec : {M : Type 1} → statement M
 offer-timing-spec =

@@ -5,7 +5,7 @@ use Rattle.windows.proofs.session_timing.Statement.{statement}
 use Rattle.windows.proofs.session_timing.Tie as tie
 
 returns : tie.Need-returns
-returns c = rw (c .time-in .ensures, c .before .gate-time .ensures, c .before .before .session-opens .ensures, c .before .before .before .first-number .ensures .0)
+returns c = rw (c .window-timing .ensures, c .before .gate-time .ensures, c .before .before .session-opens .ensures, c .before .before .before .first-number .ensures .0)
 
 pub session-timing-spec : {M : Type 1} → statement M
 session-timing-spec =

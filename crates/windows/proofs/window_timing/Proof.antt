@@ -1,9 +1,9 @@
--- `windows::time_in` meets its contract: each branch by its tests.
+-- `windows::window_timing` meets its contract: each branch by its tests.
 -- Assumes nothing.
 use borrow.Author.Tests.{lt-ltb, le-ltb}
 use Rattle.rules.specs.Windows.{timing}
-use Rattle.windows.proofs.time_in.Statement.{statement}
-use Rattle.windows.proofs.time_in.Tie as tie
+use Rattle.windows.proofs.window_timing.Statement.{statement}
+use Rattle.windows.proofs.window_timing.Tie as tie
 
 returns : tie.Need-returns
 unfolding timing
@@ -17,5 +17,5 @@ returns-3 : tie.Need-returns-3
 unfolding timing
 returns-3 c = rw (le-ltb _ _ (c .before .if1 .left), le-ltb _ _ (c .if2 .left))
 
-pub time-in-spec : {M : Type 1} → statement M
-time-in-spec = tie.close (tie.spec returns returns-2 returns-3)
+pub window-timing-spec : {M : Type 1} → statement M
+window-timing-spec = tie.close (tie.spec returns returns-2 returns-3)
