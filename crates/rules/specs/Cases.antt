@@ -100,7 +100,8 @@ wednesdayHold =
     ∷ Bid 1170 0 0 1 (one 10) ∷ Bid 1170 0 0 2 (one 10) ∷ Bid 1289 0 0 1 (one 10) ∷ Bid 1289 0 0 2 (one 10)
     ∷ Bid 1290 0 0 1 (one 10) ∷ Bid 1290 0 0 2 (one 10) ∷ []
 
--- bids of 60, 101 and 0 MW, and of 60 by party 1, which has no access, at 1,079; there one on a direction that isn't there; most again at 1,080 and 1,290
+-- at 1,079, 1,080 and 1,290 a bid that is short, one all zero and one by party 1, which has no access; at 1,079 also one on a direction that isn't
+-- there; at 1,079, 1,289 and 1,290 one with nothing else against it, and last one that is earlier than the clock
 abbrev earlyAndLate : List Call
 earlyAndLate =
     AddDirection 0 4 1 ∷ AddParty ceps 1 ∷ AddParty (uni 86) 2 ∷ OfferDirection 959 0 1 100 ∷ OfferDirection 960 0 1 100
@@ -177,7 +178,7 @@ cases =
     ∷ record { computed = map (λ (w : ℕ). bidsClose w 1 24) noTuesday ++ (bidsClose 2 1 24 ∷ []); said = sixTimes 2670 ++ (2490 ∷ []) }
     ∷ record { computed = map (bidAt 24 2669) noTuesday ++ (bidAt 24 2489 2 ∷ []); said = sixTimes 0 ++ (0 ∷ []) }
     ∷ record { computed = map (bidAt 24 2670) noTuesday ++ (bidAt 24 2490 2 ∷ []); said = sixTimes 8 ++ (8 ∷ []) }
-    -- 02, S-1: a bid in the Wednesday hold is too early, for hour 1 and for a later one; at its end hour 1 is too late
+    -- 02, S-1, up to the records: a bid in the Wednesday hold is too early, for hour 1 and for a later one; at its end hour 1 is too late
     ∷ record {
       computed = numbersOf (run (opening 24 3 .book) wednesdayHold .replies);
       said = 0 ∷ 0 ∷ 0 ∷ 0 ∷ 0 ∷ 0 ∷ 0 ∷ 100 ∷ 0 ∷ 0 ∷ 100 ∷ 0 ∷ 0 ∷ 0 ∷ 0 ∷ 16 ∷ 0 ∷ 0 ∷ 16 ∷ 0 ∷ 0 ∷ 16 ∷ 0 ∷ 0 ∷ 16 ∷ 0 ∷ 0 ∷ 8 ∷ 0 ∷ 0 ∷ 0 ∷ 1 ∷ 0 ∷ [];
@@ -190,7 +191,7 @@ cases =
           ∷ 16 ∷ 0 ∷ 0 ∷ 16 ∷ 0 ∷ 0 ∷ 16 ∷ 0 ∷ 0 ∷ 16 ∷ 0 ∷ 0 ∷ 6 ∷ 0 ∷ 0
           ∷ 15 ∷ 1 ∷ 0 ∷ 9 ∷ 0 ∷ 0 ∷ 10 ∷ 0 ∷ 0 ∷ 0 ∷ 0 ∷ 0 ∷ 8 ∷ 0 ∷ 0 ∷ 8 ∷ 0 ∷ 0 ∷ 8 ∷ 0 ∷ 0 ∷ 8 ∷ 0 ∷ 0 ∷ 5 ∷ 0 ∷ 0 ∷ [];
     }
-    -- each window of a four-hour session, a minute before its opening and on
+    -- each window of a four-hour session: the minute before it opens, its first and last, and that at which it closes
     ∷ record {
       computed = numbersOf (monday fourHourSession .replies);
       said =

@@ -21,7 +21,7 @@ use Rattle.rules.specs.declared.Timing.the-variants.{Early, Within, Late
 
 -- ---- the order
 
--- the order in which the conditions are asked: 16 stands in the place of 8 (02, S-1)
+-- the order in which the conditions are asked: 01's, with 16 in 8's place, just before it (02, S-1)
 unfoldable pub order : List ℕ
 order = 1 ∷ 2 ∷ 3 ∷ 4 ∷ 5 ∷ 6 ∷ 7 ∷ 16 ∷ 8 ∷ 9 ∷ 10 ∷ 11 ∷ 12 ∷ 13 ∷ 14 ∷ 15 ∷ []
 
