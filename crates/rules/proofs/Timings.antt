@@ -93,7 +93,7 @@ stays-late opening closing time later l e =
     let f = late-from opening closing time e in
     rw (le-ltb later opening (omega (arith, f .0)), le-ltb later closing (omega (arith, f .1)))
 
--- a bid that is late is not held, now or later
+-- a late bid is not in the hold
 late-not-held : (n weekday model s time : ℕ) → bidTiming n weekday model s time ≡ Late → held weekday time ≡ false
 unfolding bidTiming
 late-not-held n weekday model s time e = go (held weekday time) refl

@@ -100,15 +100,15 @@ wednesdayHold =
     ∷ Bid 1170 0 0 1 (one 10) ∷ Bid 1170 0 0 2 (one 10) ∷ Bid 1289 0 0 1 (one 10) ∷ Bid 1289 0 0 2 (one 10)
     ∷ Bid 1290 0 0 1 (one 10) ∷ Bid 1290 0 0 2 (one 10) ∷ []
 
--- at 1,079, 1,080 and 1,290 a bid that is short, one all zero and one by party 1, which has no access; at 1,079 also one on a direction that isn't
--- there; at 1,079, 1,289 and 1,290 one with nothing else against it, and last one that is earlier than the clock
+-- at 1,079, 1,080 and 1,290 bids that are short, all zero, or by party 1, which has no access; at 1,079 one on a direction that isn't there. Then, at
+-- their close, an offer below what is granted and a nomination of a right that neither party holds, and last a bid before the clock
 abbrev earlyAndLate : List Call
 earlyAndLate =
     AddDirection 0 4 1 ∷ AddParty ceps 1 ∷ AddParty (uni 86) 2 ∷ OfferDirection 959 0 1 100 ∷ OfferDirection 960 0 1 100
     ∷ Bid 1079 0 0 1 (one 60) ∷ Bid 1079 0 0 1 (one 101) ∷ Bid 1079 0 0 1 (one 0) ∷ Bid 1079 1 0 1 (one 60)
     ∷ Bid 1079 0 1 1 (one 60) ∷ Bid 1080 0 0 1 (one 101) ∷ Bid 1080 0 0 1 (one 0) ∷ Bid 1080 1 0 1 (one 60)
     ∷ Bid 1289 0 0 1 (one 60) ∷ Bid 1290 0 0 1 (one 10) ∷ Bid 1290 0 0 1 (one 101) ∷ Bid 1290 0 0 1 (one 0) ∷ Bid 1290 1 0 1 (one 60)
-    ∷ Bid 1079 0 0 1 (one 10) ∷ []
+    ∷ OfferDirection 1290 0 1 10 ∷ Nominate 1350 1 1 0 0 (one 10) ∷ Bid 1079 0 0 1 (one 10) ∷ []
 
 -- session 2 of the four-hour model, hours 5 to 8, at each of its gates; a profile's hour 8 closes as a one-hour session does
 abbrev fourHourSession : List Call
@@ -183,13 +183,15 @@ cases =
       computed = numbersOf (run (opening 24 3 .book) wednesdayHold .replies);
       said = 0 ∷ 0 ∷ 0 ∷ 0 ∷ 0 ∷ 0 ∷ 0 ∷ 100 ∷ 0 ∷ 0 ∷ 100 ∷ 0 ∷ 0 ∷ 0 ∷ 0 ∷ 16 ∷ 0 ∷ 0 ∷ 16 ∷ 0 ∷ 0 ∷ 16 ∷ 0 ∷ 0 ∷ 16 ∷ 0 ∷ 0 ∷ 8 ∷ 0 ∷ 0 ∷ 0 ∷ 1 ∷ 0 ∷ [];
     }
-    -- an offer at 959 is too early; so is a bid at 1,079, also where it is short, all zero or without access, and at 1,290 it is too late; 6 and 5 come before 16
+    -- an offer at 959 is too early; so is a bid at 1,079, also where it is short, all zero or without access, and at 1,290 it is too late; 6 and 5
+    -- come before 16, and 8 before 14 and 11
     ∷ record {
       computed = numbersOf (monday earlyAndLate .replies);
       said =
           0 ∷ 0 ∷ 0 ∷ 0 ∷ 0 ∷ 0 ∷ 0 ∷ 1 ∷ 0 ∷ 16 ∷ 0 ∷ 0 ∷ 0 ∷ 100 ∷ 0
           ∷ 16 ∷ 0 ∷ 0 ∷ 16 ∷ 0 ∷ 0 ∷ 16 ∷ 0 ∷ 0 ∷ 16 ∷ 0 ∷ 0 ∷ 6 ∷ 0 ∷ 0
-          ∷ 15 ∷ 1 ∷ 0 ∷ 9 ∷ 0 ∷ 0 ∷ 10 ∷ 0 ∷ 0 ∷ 0 ∷ 0 ∷ 0 ∷ 8 ∷ 0 ∷ 0 ∷ 8 ∷ 0 ∷ 0 ∷ 8 ∷ 0 ∷ 0 ∷ 8 ∷ 0 ∷ 0 ∷ 5 ∷ 0 ∷ 0 ∷ [];
+          ∷ 15 ∷ 1 ∷ 0 ∷ 9 ∷ 0 ∷ 0 ∷ 10 ∷ 0 ∷ 0 ∷ 0 ∷ 0 ∷ 0 ∷ 8 ∷ 0 ∷ 0 ∷ 8 ∷ 0 ∷ 0 ∷ 8 ∷ 0 ∷ 0 ∷ 8 ∷ 0 ∷ 0
+          ∷ 8 ∷ 0 ∷ 0 ∷ 8 ∷ 0 ∷ 0 ∷ 5 ∷ 0 ∷ 0 ∷ [];
     }
     -- each window of a four-hour session: the minute before it opens, its first and last, and that at which it closes
     ∷ record {
@@ -210,6 +212,11 @@ cases =
     -- a Wednesday: the hold is of four-hour sessions too, and of bids only
     ∷ record { computed = atMinutes (bidTiming 24 3 4 1) (1169 ∷ 1170 ∷ 1289 ∷ 1290 ∷ []); said = 0 ∷ 16 ∷ 16 ∷ 8 ∷ [] }
     ∷ record { computed = atMinutes (nominationTiming 24 3 1 1) (1170 ∷ 1289 ∷ []) ++ atMinutes (offerTiming 24 3 1 1) (1170 ∷ 1289 ∷ []); said = 0 ∷ 0 ∷ 0 ∷ 0 ∷ [] }
+    -- days of 25 and 23 hours: session 2 of the four-hour model begins with hour 6, and with hour 4
+    ∷ record { computed = atMinutes (bidTiming 25 7 4 2) (1379 ∷ 1380 ∷ 1589 ∷ 1590 ∷ []) ++ atMinutes (bidTiming 23 7 4 2) (1259 ∷ 1260 ∷ 1469 ∷ 1470 ∷ []); said = 16 ∷ 0 ∷ 0 ∷ 8 ∷ 16 ∷ 0 ∷ 0 ∷ 8 ∷ [] }
+    ∷ record { computed = atMinutes (nominationTiming 25 7 4 2) (1379 ∷ 1380 ∷ 1649 ∷ 1650 ∷ []) ++ atMinutes (nominationTiming 23 7 4 2) (1259 ∷ 1260 ∷ 1529 ∷ 1530 ∷ []); said = 16 ∷ 0 ∷ 0 ∷ 8 ∷ 16 ∷ 0 ∷ 0 ∷ 8 ∷ [] }
+    ∷ record { computed = atMinutes (offerTiming 25 7 4 5) (959 ∷ 960 ∷ 1289 ∷ 1290 ∷ []) ++ atMinutes (offerTiming 23 7 4 4) (959 ∷ 960 ∷ 1469 ∷ 1470 ∷ []); said = 16 ∷ 0 ∷ 0 ∷ 8 ∷ 16 ∷ 0 ∷ 0 ∷ 8 ∷ [] }
+    ∷ record { computed = atMinutes (matchingTiming 25 7 4 2) (1694 ∷ 1695 ∷ []) ++ atMinutes (matchingTiming 23 7 4 2) (1574 ∷ 1575 ∷ []); said = 16 ∷ 0 ∷ 16 ∷ 0 ∷ [] }
     -- the record of a bid, and the call read from it
     ∷ record { computed = recordOf bidRecord; said = bidBytes }
     ∷ record { computed = reading bidBytes .reply .number ∷ reading bidBytes .length ∷ fieldsOf (reading bidBytes .call); said = 0 ∷ 10 ∷ fieldsOf bidRecord }

@@ -1,7 +1,7 @@
 -- 01, What the book says no to: one condition for each number, and the order in which they count.
 -- A number that cannot apply to a call is false there. The opening, the reads and the records use `order` and `firstOf` too.
 -- Assumes nothing.
-use Prim.Native.Nat.{ℕ, _+_, _-_, _^_}
+use Prim.Native.Nat.{ℕ, _^_}
 use mathlib.Core.Bool.{Bool, true, false, cond, _||_, _&&_, not}
 use mathlib.Core.List.{List, [], _∷_}
 use lib.Dec.{leb, ltb, eqb}

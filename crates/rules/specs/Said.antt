@@ -1,4 +1,4 @@
--- The number and the two details of document 01 for each case of an Answer.
+-- The number and the two details that the papers give each case of an Answer.
 -- Assumes nothing.
 use Prim.Native.Nat.{ℕ, _+_}
 use Rattle.rules.specs.Calls.{Reply, noDetails}

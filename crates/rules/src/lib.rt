@@ -1,4 +1,4 @@
-// The types that the day book's crates share. Document 01's rules over them stand in specs/, what follows from them in proofs/.
+// The types that the day book's crates share. The rules of documents 01 and 02 over them stand in specs/, what follows from them in proofs/.
 ghost use mathlib.Core.Path.{_≡_};
 ghost use Prim.Native.Nat.{_-_};
 
