@@ -100,24 +100,44 @@ wednesdayHold =
     ∷ Bid 1170 0 0 1 (one 10) ∷ Bid 1170 0 0 2 (one 10) ∷ Bid 1289 0 0 1 (one 10) ∷ Bid 1289 0 0 2 (one 10)
     ∷ Bid 1290 0 0 1 (one 10) ∷ Bid 1290 0 0 2 (one 10) ∷ []
 
--- at 1,079, 1,080 and 1,290 bids that are short, all zero, or by party 1, which has no access; at 1,079 one on a direction that isn't there. Then, at
--- their close, an offer below what is granted and a nomination of a right that neither party holds, and last a bid before the clock
-abbrev earlyAndLate : List Call
-earlyAndLate =
+-- bids at 1,079: one with nothing else against it, one that is short, one all zero, one by party 1, which has no access, one on a direction that isn't there
+abbrev earlyBids : List Call
+earlyBids =
     AddDirection 0 4 1 ∷ AddParty ceps 1 ∷ AddParty (uni 86) 2 ∷ OfferDirection 959 0 1 100 ∷ OfferDirection 960 0 1 100
-    ∷ Bid 1079 0 0 1 (one 60) ∷ Bid 1079 0 0 1 (one 101) ∷ Bid 1079 0 0 1 (one 0) ∷ Bid 1079 1 0 1 (one 60)
-    ∷ Bid 1079 0 1 1 (one 60) ∷ Bid 1080 0 0 1 (one 101) ∷ Bid 1080 0 0 1 (one 0) ∷ Bid 1080 1 0 1 (one 60)
-    ∷ Bid 1289 0 0 1 (one 60) ∷ Bid 1290 0 0 1 (one 10) ∷ Bid 1290 0 0 1 (one 101) ∷ Bid 1290 0 0 1 (one 0) ∷ Bid 1290 1 0 1 (one 60)
+    ∷ Bid 1079 0 0 1 (one 60) ∷ Bid 1079 0 0 1 (one 101) ∷ Bid 1079 0 0 1 (one 0) ∷ Bid 1079 1 0 1 (one 60) ∷ Bid 1079 0 1 1 (one 60) ∷ []
+
+-- the first four sent again at 1,080, the granted one last
+abbrev sentAgain : List Call
+sentAgain =
+    AddDirection 0 4 1 ∷ AddParty ceps 1 ∷ AddParty (uni 86) 2 ∷ OfferDirection 960 0 1 100
+    ∷ Bid 1080 0 0 1 (one 101) ∷ Bid 1080 0 0 1 (one 0) ∷ Bid 1080 1 0 1 (one 60) ∷ Bid 1080 0 0 1 (one 60) ∷ []
+
+-- the same at 1,290 after a bid at 1,289, an offer below what is granted and, at 1,350, a nomination of a right that neither party holds; last a bid before
+-- the clock
+abbrev lateCalls : List Call
+lateCalls =
+    AddDirection 0 4 1 ∷ AddParty ceps 1 ∷ AddParty (uni 86) 2 ∷ OfferDirection 960 0 1 100 ∷ Bid 1289 0 0 1 (one 60)
+    ∷ Bid 1290 0 0 1 (one 10) ∷ Bid 1290 0 0 1 (one 101) ∷ Bid 1290 0 0 1 (one 0) ∷ Bid 1290 1 0 1 (one 60)
     ∷ OfferDirection 1290 0 1 10 ∷ Nominate 1350 1 1 0 0 (one 10) ∷ Bid 1079 0 0 1 (one 10) ∷ []
 
--- session 2 of the four-hour model, hours 5 to 8, at each of its gates; a profile's hour 8 closes as a one-hour session does
-abbrev fourHourSession : List Call
-fourHourSession =
-    AddDirection 0 4 4 ∷ AddDirection 0 1 4 ∷ AddProfile 3 ∷ AddParty ceps 1
-    ∷ OfferProfile 959 0 5 50 ∷ OfferProfile 960 0 5 50 ∷ OfferDirection 960 0 5 50
-    ∷ Bid 1319 0 0 2 (one 10) ∷ Bid 1320 0 0 2 (one 10) ∷ Bid 1529 0 0 2 (one 10) ∷ Bid 1530 0 0 2 (one 10)
-    ∷ OfferDirection 1530 0 8 50 ∷ OfferProfile 1530 0 8 50
+-- session 2 of the four-hour model, hours 5 to 8: offers and bids at their gates
+abbrev fourHourBids : List Call
+fourHourBids =
+    AddDirection 0 4 4 ∷ AddParty ceps 1 ∷ OfferDirection 959 0 5 50 ∷ OfferDirection 960 0 5 50
+    ∷ Bid 1319 0 0 2 (one 10) ∷ Bid 1320 0 0 2 (one 10) ∷ Bid 1529 0 0 2 (one 10) ∷ OfferDirection 1529 0 8 50
+    ∷ Bid 1530 0 0 2 (one 10) ∷ OfferDirection 1530 0 8 50 ∷ []
+
+-- the same session: nominations and matching at their gates
+abbrev fourHourMatching : List Call
+fourHourMatching =
+    AddDirection 0 4 4 ∷ AddParty ceps 1 ∷ OfferDirection 960 0 5 50 ∷ Bid 1320 0 0 2 (one 20)
     ∷ Nominate 1589 0 0 0 0 (one 20) ∷ Nominate 1590 0 0 0 0 (one 20) ∷ Match 1634 0 2 ∷ Match 1635 0 2 ∷ []
+
+-- hour 8 of a profile of four-hour directions, which is offered as a one-hour session is
+abbrev profileOffers : List Call
+profileOffers =
+    AddDirection 0 4 4 ∷ AddDirection 0 1 4 ∷ AddProfile 3
+    ∷ OfferProfile 959 0 8 50 ∷ OfferProfile 960 0 8 50 ∷ OfferProfile 1709 0 8 60 ∷ OfferProfile 1710 0 8 70 ∷ []
 
 abbrev fourHours : List Call
 fourHours =
@@ -178,30 +198,7 @@ cases =
     ∷ record { computed = map (λ (w : ℕ). bidsClose w 1 24) noTuesday ++ (bidsClose 2 1 24 ∷ []); said = sixTimes 2670 ++ (2490 ∷ []) }
     ∷ record { computed = map (bidAt 24 2669) noTuesday ++ (bidAt 24 2489 2 ∷ []); said = sixTimes 0 ++ (0 ∷ []) }
     ∷ record { computed = map (bidAt 24 2670) noTuesday ++ (bidAt 24 2490 2 ∷ []); said = sixTimes 8 ++ (8 ∷ []) }
-    -- 02, S-1, up to the records: a bid in the Wednesday hold is too early, for hour 1 and for a later one; at its end hour 1 is too late
-    ∷ record {
-      computed = numbersOf (run (opening 24 3 .book) wednesdayHold .replies);
-      said = 0 ∷ 0 ∷ 0 ∷ 0 ∷ 0 ∷ 0 ∷ 0 ∷ 100 ∷ 0 ∷ 0 ∷ 100 ∷ 0 ∷ 0 ∷ 0 ∷ 0 ∷ 16 ∷ 0 ∷ 0 ∷ 16 ∷ 0 ∷ 0 ∷ 16 ∷ 0 ∷ 0 ∷ 16 ∷ 0 ∷ 0 ∷ 8 ∷ 0 ∷ 0 ∷ 0 ∷ 1 ∷ 0 ∷ [];
-    }
-    -- an offer at 959 is too early; so is a bid at 1,079, also where it is short, all zero or without access, and at 1,290 it is too late; 6 and 5
-    -- come before 16, and 8 before 14 and 11
-    ∷ record {
-      computed = numbersOf (monday earlyAndLate .replies);
-      said =
-          0 ∷ 0 ∷ 0 ∷ 0 ∷ 0 ∷ 0 ∷ 0 ∷ 1 ∷ 0 ∷ 16 ∷ 0 ∷ 0 ∷ 0 ∷ 100 ∷ 0
-          ∷ 16 ∷ 0 ∷ 0 ∷ 16 ∷ 0 ∷ 0 ∷ 16 ∷ 0 ∷ 0 ∷ 16 ∷ 0 ∷ 0 ∷ 6 ∷ 0 ∷ 0
-          ∷ 15 ∷ 1 ∷ 0 ∷ 9 ∷ 0 ∷ 0 ∷ 10 ∷ 0 ∷ 0 ∷ 0 ∷ 0 ∷ 0 ∷ 8 ∷ 0 ∷ 0 ∷ 8 ∷ 0 ∷ 0 ∷ 8 ∷ 0 ∷ 0 ∷ 8 ∷ 0 ∷ 0
-          ∷ 8 ∷ 0 ∷ 0 ∷ 8 ∷ 0 ∷ 0 ∷ 5 ∷ 0 ∷ 0 ∷ [];
-    }
-    -- each window of a four-hour session: the minute before it opens, its first and last, and that at which it closes
-    ∷ record {
-      computed = numbersOf (monday fourHourSession .replies);
-      said =
-          0 ∷ 0 ∷ 0 ∷ 0 ∷ 1 ∷ 0 ∷ 0 ∷ 0 ∷ 0 ∷ 0 ∷ 0 ∷ 0 ∷ 16 ∷ 0 ∷ 0 ∷ 0 ∷ 50 ∷ 0 ∷ 0 ∷ 50 ∷ 0
-          ∷ 16 ∷ 0 ∷ 0 ∷ 0 ∷ 0 ∷ 0 ∷ 0 ∷ 0 ∷ 0 ∷ 8 ∷ 0 ∷ 0 ∷ 8 ∷ 0 ∷ 0 ∷ 0 ∷ 50 ∷ 0
-          ∷ 0 ∷ 0 ∷ 0 ∷ 8 ∷ 0 ∷ 0 ∷ 16 ∷ 0 ∷ 0 ∷ 0 ∷ 1 ∷ 0 ∷ [];
-    }
-    -- nominations, offers and matching of hour 1 on a Monday
+    -- 02, S-1, up to the records: nominations, offers and matching of hour 1 on a Monday
     ∷ record { computed = atMinutes (nominationTiming 24 1 1 1) (1079 ∷ 1080 ∷ 1349 ∷ 1350 ∷ []); said = 16 ∷ 0 ∷ 0 ∷ 8 ∷ [] }
     ∷ record { computed = atMinutes (offerTiming 24 1 1 1) (959 ∷ 960 ∷ 1289 ∷ 1290 ∷ []); said = 16 ∷ 0 ∷ 0 ∷ 8 ∷ [] }
     ∷ record { computed = atMinutes (matchingTiming 24 1 1 1) (1394 ∷ 1395 ∷ 2999 ∷ []); said = 16 ∷ 0 ∷ 0 ∷ [] }
@@ -217,6 +214,47 @@ cases =
     ∷ record { computed = atMinutes (nominationTiming 25 7 4 2) (1379 ∷ 1380 ∷ 1649 ∷ 1650 ∷ []) ++ atMinutes (nominationTiming 23 7 4 2) (1259 ∷ 1260 ∷ 1529 ∷ 1530 ∷ []); said = 16 ∷ 0 ∷ 0 ∷ 8 ∷ 16 ∷ 0 ∷ 0 ∷ 8 ∷ [] }
     ∷ record { computed = atMinutes (offerTiming 25 7 4 5) (959 ∷ 960 ∷ 1289 ∷ 1290 ∷ []) ++ atMinutes (offerTiming 23 7 4 4) (959 ∷ 960 ∷ 1469 ∷ 1470 ∷ []); said = 16 ∷ 0 ∷ 0 ∷ 8 ∷ 16 ∷ 0 ∷ 0 ∷ 8 ∷ [] }
     ∷ record { computed = atMinutes (matchingTiming 25 7 4 2) (1694 ∷ 1695 ∷ []) ++ atMinutes (matchingTiming 23 7 4 2) (1574 ∷ 1575 ∷ []); said = 16 ∷ 0 ∷ 16 ∷ 0 ∷ [] }
+    -- calls: a bid in the Wednesday hold is too early, for hour 1 and for a later one; at its end hour 1 is too late
+    ∷ record {
+      computed = numbersOf (run (opening 24 3 .book) wednesdayHold .replies);
+      said = 0 ∷ 0 ∷ 0 ∷ 0 ∷ 0 ∷ 0 ∷ 0 ∷ 100 ∷ 0 ∷ 0 ∷ 100 ∷ 0 ∷ 0 ∷ 0 ∷ 0 ∷ 16 ∷ 0 ∷ 0 ∷ 16 ∷ 0 ∷ 0 ∷ 16 ∷ 0 ∷ 0 ∷ 16 ∷ 0 ∷ 0 ∷ 8 ∷ 0 ∷ 0 ∷ 0 ∷ 1 ∷ 0 ∷ [];
+    }
+    -- an offer at 959 is too early; so is a bid at 1,079, also where it is short, all zero or without access, but 6 comes before 16
+    ∷ record {
+      computed = numbersOf (monday earlyBids .replies);
+      said =
+          0 ∷ 0 ∷ 0 ∷ 0 ∷ 0 ∷ 0 ∷ 0 ∷ 1 ∷ 0 ∷ 16 ∷ 0 ∷ 0 ∷ 0 ∷ 100 ∷ 0
+          ∷ 16 ∷ 0 ∷ 0 ∷ 16 ∷ 0 ∷ 0 ∷ 16 ∷ 0 ∷ 0 ∷ 16 ∷ 0 ∷ 0 ∷ 6 ∷ 0 ∷ 0 ∷ [];
+    }
+    -- sent again at 1,080 they are short, all zero, without access, and granted
+    ∷ record {
+      computed = numbersOf (monday sentAgain .replies);
+      said = 0 ∷ 0 ∷ 0 ∷ 0 ∷ 0 ∷ 0 ∷ 0 ∷ 1 ∷ 0 ∷ 0 ∷ 100 ∷ 0 ∷ 15 ∷ 1 ∷ 0 ∷ 9 ∷ 0 ∷ 0 ∷ 10 ∷ 0 ∷ 0 ∷ 0 ∷ 0 ∷ 0 ∷ [];
+    }
+    -- a bid at 1,290 is too late, also where it is short, all zero or without access; so are an offer and a nomination at their close, also where 14 and
+    -- 11 would apply; 5 comes before 16
+    ∷ record {
+      computed = numbersOf (monday lateCalls .replies);
+      said =
+          0 ∷ 0 ∷ 0 ∷ 0 ∷ 0 ∷ 0 ∷ 0 ∷ 1 ∷ 0 ∷ 0 ∷ 100 ∷ 0 ∷ 0 ∷ 0 ∷ 0
+          ∷ 8 ∷ 0 ∷ 0 ∷ 8 ∷ 0 ∷ 0 ∷ 8 ∷ 0 ∷ 0 ∷ 8 ∷ 0 ∷ 0 ∷ 8 ∷ 0 ∷ 0 ∷ 8 ∷ 0 ∷ 0 ∷ 5 ∷ 0 ∷ 0 ∷ [];
+    }
+    -- each window of a four-hour session: the minute before it opens, its first and last, and that at which it closes
+    ∷ record {
+      computed = numbersOf (monday fourHourBids .replies);
+      said =
+          0 ∷ 0 ∷ 0 ∷ 0 ∷ 0 ∷ 0 ∷ 16 ∷ 0 ∷ 0 ∷ 0 ∷ 50 ∷ 0
+          ∷ 16 ∷ 0 ∷ 0 ∷ 0 ∷ 0 ∷ 0 ∷ 0 ∷ 0 ∷ 0 ∷ 0 ∷ 50 ∷ 0 ∷ 8 ∷ 0 ∷ 0 ∷ 8 ∷ 0 ∷ 0 ∷ [];
+    }
+    ∷ record {
+      computed = numbersOf (monday fourHourMatching .replies);
+      said = 0 ∷ 0 ∷ 0 ∷ 0 ∷ 0 ∷ 0 ∷ 0 ∷ 50 ∷ 0 ∷ 0 ∷ 0 ∷ 0 ∷ 0 ∷ 0 ∷ 0 ∷ 8 ∷ 0 ∷ 0 ∷ 16 ∷ 0 ∷ 0 ∷ 0 ∷ 1 ∷ 0 ∷ [];
+    }
+    -- an hour of a profile, as a one-hour session
+    ∷ record {
+      computed = numbersOf (monday profileOffers .replies);
+      said = 0 ∷ 0 ∷ 0 ∷ 0 ∷ 1 ∷ 0 ∷ 0 ∷ 0 ∷ 0 ∷ 16 ∷ 0 ∷ 0 ∷ 0 ∷ 50 ∷ 0 ∷ 0 ∷ 60 ∷ 0 ∷ 8 ∷ 0 ∷ 0 ∷ [];
+    }
     -- the record of a bid, and the call read from it
     ∷ record { computed = recordOf bidRecord; said = bidBytes }
     ∷ record { computed = reading bidBytes .reply .number ∷ reading bidBytes .length ∷ fieldsOf (reading bidBytes .call); said = 0 ∷ 10 ∷ fieldsOf bidRecord }
