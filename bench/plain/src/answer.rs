@@ -24,7 +24,6 @@ pub enum Answer {
     Owner,
     Cycle,
     Full,
-    Below,
     Short(u8, CapacityOf),
 }
 
@@ -46,7 +45,6 @@ impl Answer {
             Answer::Owner => (11, 0, 0),
             Answer::Cycle => (12, 0, 0),
             Answer::Full => (13, 0, 0),
-            Answer::Below => (14, 0, 0),
             Answer::Short(hour, CapacityOf::Direction) => (15, hour.into(), 0),
             Answer::Short(hour, CapacityOf::Profile(p)) => (15, hour.into(), 1 + u32::from(p)),
         }

@@ -24,9 +24,28 @@ struct Capacity {
 }
 
 impl Capacity {
+    /// 0 where the granted MW exceed the offer.
     fn left(&self) -> u32 {
-        self.offered - self.granted
+        self.offered.saturating_sub(self.granted)
     }
+
+    /// By how much the granted MW exceed the offer.
+    fn shortfall(&self) -> u32 {
+        self.granted.saturating_sub(self.offered)
+    }
+
+    fn read(&self) -> Left {
+        Left {
+            left: self.left(),
+            shortfall: self.shortfall(),
+        }
+    }
+}
+
+/// What a read of a direction or a profile in an hour answers.
+pub struct Left {
+    pub left: u32,
+    pub shortfall: u32,
 }
 
 struct Direction {
@@ -240,9 +259,6 @@ impl Book {
             return refusal;
         }
         let capacity = &mut offered.capacity[at(hour)];
-        if u32::from(mw) < capacity.granted {
-            return Answer::Below;
-        }
         capacity.offered = u32::from(mw);
         self.clock = Some(time);
         Answer::Granted(capacity.left())
@@ -267,9 +283,6 @@ impl Book {
             return refusal;
         }
         let capacity = &mut offered.capacity[at(hour)];
-        if u32::from(mw) < capacity.granted {
-            return Answer::Below;
-        }
         capacity.offered = u32::from(mw);
         self.clock = Some(time);
         Answer::Granted(capacity.left())
@@ -532,16 +545,16 @@ impl Book {
 
 // Reads.
 impl Book {
-    pub fn left_of_direction(&self, direction: u8, hour: u8) -> Result<u32, Answer> {
+    pub fn left_of_direction(&self, direction: u8, hour: u8) -> Result<Left, Answer> {
         match self.directions.get(usize::from(direction)) {
-            Some(asked) if self.day.has_hour(hour) => Ok(asked.capacity[at(hour)].left()),
+            Some(asked) if self.day.has_hour(hour) => Ok(asked.capacity[at(hour)].read()),
             _ => Err(Answer::Unknown),
         }
     }
 
-    pub fn left_of_profile(&self, profile: u8, hour: u8) -> Result<u32, Answer> {
+    pub fn left_of_profile(&self, profile: u8, hour: u8) -> Result<Left, Answer> {
         match self.profiles.get(usize::from(profile)) {
-            Some(asked) if self.day.has_hour(hour) => Ok(asked.capacity[at(hour)].left()),
+            Some(asked) if self.day.has_hour(hour) => Ok(asked.capacity[at(hour)].read()),
             _ => Err(Answer::Unknown),
         }
     }

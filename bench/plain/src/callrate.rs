@@ -99,6 +99,16 @@ fn many_rights() -> Book {
     book
 }
 
+/// Each offer of the last hour is cut to 100 MW, under what is granted of some.
+fn cut_offers(book: &mut Book) {
+    for direction in 0..24 {
+        book.offer_direction(2300, direction, 24, 100);
+    }
+    for profile in 0..8 {
+        book.offer_profile(2300, profile, 24, 100);
+    }
+}
+
 /// Five rights, all party 63's: right r is on direction r.
 fn few_rights() -> Book {
     let mut book = four_hour_book();
@@ -253,9 +263,10 @@ fn confirmed_many() -> Sum {
     confirmed(many_rights(), many_pair)
 }
 
-/// Reads of what is left of a direction or a profile, of hours that are offered, not offered, and not there.
+/// Reads of what is left of a direction or a profile, of hours that are offered, cut, not offered, and not there.
 fn left() -> Sum {
-    let book = many_rights();
+    let mut book = many_rights();
+    cut_offers(&mut book);
     let mut sum = Sum::default();
     for i in 0..SHORT_READS {
         let row = (i % 32) as u8;
@@ -266,9 +277,10 @@ fn left() -> Sum {
             book.left_of_profile(row - 24, hour)
         };
         match read {
-            Ok(left) => {
+            Ok(read) => {
                 sum.answer(Answer::Granted(0));
-                sum.add(left);
+                sum.add(read.left);
+                sum.add(read.shortfall);
             }
             Err(refusal) => sum.answer(refusal),
         }

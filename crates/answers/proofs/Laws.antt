@@ -78,3 +78,9 @@ by-window {t = Late} l e = refuse TooLate (pass l (ap tooEarly (sym e))) (ap too
 pub none-left : {b : Book} {c : Call} → Left b c [] → Judged b c Clear
 unfolding firstOf
 none-left l = l .number-is
+
+-- where it is the last test, the window's verdict is that of the call
+pub window-last : {b : Book} {c : Call} {t : Timing} → Left b c (16 ∷ 8 ∷ []) → t ≡ timingOf b c → Judged b c (windowVerdict t)
+window-last {t = Early} l e = by-window l e
+window-last {t = Within} l e = none-left (by-window l e)
+window-last {t = Late} l e = by-window l e

@@ -48,15 +48,15 @@ windowVerdict Late = No TooLate
 
 -- ---- the reads
 
--- what a read of capacity left says, as the rules write it
+-- what a read of capacity left and shortfall says, as the rules write it
 abbrev pub saidLeft : LeftRead → LeftReply
-saidLeft r = record { reply = said (r .answer); left = r .left }
+saidLeft r = record { reply = said (r .answer); left = r .left; shortfall = r .shortfall }
 
--- capacity left of a direction in an hour
+-- capacity left and shortfall of a direction in an hour
 pub record ReadsDirection (cells : List ℕ) (d hour : ℕ) (r : LeftRead) : Type 0 where
   pub reply : saidLeft r ≡ readDirection (bookOf cells) d hour
 
--- capacity left of a profile in an hour
+-- capacity left and shortfall of a profile in an hour
 pub record ReadsProfile (cells : List ℕ) (p hour : ℕ) (r : LeftRead) : Type 0 where
   pub reply : saidLeft r ≡ readProfile (bookOf cells) p hour
 

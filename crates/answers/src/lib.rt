@@ -21,10 +21,11 @@ pub enum Verdict {
     No(Answer),
 }
 
-// Capacity left.
+// Capacity left, and the shortfall; zeros where refused.
 pub struct LeftRead {
     pub answer: Answer,
     pub left: u32,
+    pub shortfall: u32,
 }
 
 // A right; zeros where refused.
@@ -148,7 +149,6 @@ pub fn numbers(answer: Answer) -> ReplyNumbers
         Answer::Owner => refused(11),
         Answer::Cycle => refused(12),
         Answer::Full => refused(13),
-        Answer::Below => refused(14),
         Answer::Short(hour, capacity) => ReplyNumbers {
             number: 15,
             first: hour.0 as u32,

@@ -15,7 +15,7 @@ use Rattle.rules.specs.Calls.{Bid}
 use Rattle.rules.specs.Said.{said}
 use Rattle.rules.specs.Bids.{Shortage, isShort}
 use Rattle.rules.specs.Details.{shortHourOf, shortCapacityOf, refusal}
-use Rattle.rules.specs.Refusals.{order, firstOf, setupShut, taken, notOwner, cycle, below, partyUnknown, directionUnknown, sessionUnknown, refuses, noAccess, shortageOf}
+use Rattle.rules.specs.Refusals.{order, firstOf, setupShut, taken, notOwner, cycle, partyUnknown, directionUnknown, sessionUnknown, refuses, noAccess, shortageOf}
 use Rattle.rules.specs.declared.Hour.{Hour}
 use Rattle.rules.specs.declared.CapacityOf.{CapacityOf}
 use Rattle.rules.specs.declared.CapacityOf.the-variants.{Direction, Profile}
@@ -37,7 +37,7 @@ use Rattle.bids.specs.Work.{JudgedBid, Session-known, Searched}
 
 -- the numbers that can apply to a bid
 pub bid-left : (b : Book) (t p d s : ℕ) (mw : List ℕ) → Left b (Bid t p d s mw) (3 ∷ 5 ∷ 6 ∷ 16 ∷ 8 ∷ 9 ∷ 10 ∷ 13 ∷ 15 ∷ [])
-unfolding firstOf order refuses setupShut taken notOwner cycle below
+unfolding firstOf order refuses setupShut taken notOwner cycle
 bid-left b t p d s mw = record { number-is = refl }
 
 -- ---- party, direction and session are there

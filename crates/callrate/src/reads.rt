@@ -39,11 +39,13 @@ fn left_of(book: &Book, row: u8, hour: Hour) -> LeftRead {
 fn left_sum(book: &Book, i: u32) -> u32 {
     let read = left_of(book, (i % 32) as u8, Hour((i / 32 % 26) as u8));
     let answer = read.answer;
-    wrapping_add_u32(callrate_books::sum_of(answer), read.left)
+    let left = wrapping_add_u32(callrate_books::sum_of(answer), read.left);
+    wrapping_add_u32(left, read.shortfall)
 }
 
-// Reads of what is left of a direction or a profile, of hours that are offered, not offered, and not there.
-pub fn left(book: &Book, calls: u32) -> u32 {
+// Reads of what is left of a direction or a profile, of hours that are offered, cut, not offered, and not there.
+pub fn left(book: &mut Book, calls: u32) -> u32 {
+    callrate_books::cut_offers(book);
     let mut sum = 0;
     for i in 0..calls {
         sum = wrapping_add_u32(sum, left_sum(book, i));

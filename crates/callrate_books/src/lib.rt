@@ -43,14 +43,25 @@ fn add(book: &mut Book, k: u8, model: u8) -> Answer {
     }
 }
 
-// 9,999 MW in an hour, from the last one down. Rows 0 to 23 are the directions, 24 to 31 the profiles.
-fn offer(book: &mut Book, k: u32) -> Answer {
-    let row = (k % 32) as u8;
-    let hour = Hour((24 - k / 32 % 24) as u8);
+// Rows 0 to 23 are the directions, 24 to 31 the profiles.
+fn offer_row(book: &mut Book, time: u32, row: u8, hour: Hour, mw: u16) -> Answer {
     if row < 24 {
-        return daybook::offer_direction(book, 1000, row, hour, 9999);
+        return daybook::offer_direction(book, time, row, hour, mw);
     }
-    daybook::offer_profile(book, 1000, row - 24, hour, 9999)
+    daybook::offer_profile(book, time, row - 24, hour, mw)
+}
+
+// 9,999 MW in an hour, from the last one down.
+fn offer(book: &mut Book, k: u32) -> Answer {
+    let hour = Hour((24 - k / 32 % 24) as u8);
+    offer_row(book, 1000, (k % 32) as u8, hour, 9999)
+}
+
+// Each offer of the last hour is cut to 100 MW, under what is granted of some.
+pub fn cut_offers(book: &mut Book) {
+    for row in 0..32u8 {
+        offer_row(book, 2300, row, Hour(24), 100);
+    }
 }
 
 fn make_offers(book: &mut Book, tally: &mut Tally, calls: u32) {

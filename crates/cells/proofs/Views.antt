@@ -10,7 +10,7 @@ use lib.Dec.{eqb, leb, ltb, lit≤}
 use borrow.Author.Tests.{leb-false, ltb-false}
 use lib.ListN.{length, getD, List·getD-eq-default}
 use Rattle.rules.specs.Sessions.{sessionThere, hoursIn}
-use Rattle.rules.specs.Book.{Direction, Party, Pair, place, direction, party, right, leftAt, modelOf, directionLimit, pairLimit, partyLimit, profileLimit, rightLimit}
+use Rattle.rules.specs.Book.{Direction, Party, Pair, place, direction, party, right, leftAt, shortfallAt, modelOf, directionLimit, pairLimit, partyLimit, profileLimit, rightLimit}
 use Rattle.rules.specs.Refusals.{directionUnknown, sessionUnknown, hourUnknown}
 use Rattle.cells.specs.Layout.{DIRECTIONS, PROFILES, PARTIES, OFFERED, GRANTED, MATCHED, RIGHTS, PAIRS}
 use Rattle.cells.specs.View.{InHour, cell, cellFrom, part, counted, dayHoursIn, directionAt, directionsIn, profilesIn, partyAt, partiesIn, offeredIn, grantedIn, matchedIn, rightAt, rightsIn, pairAt, pairsIn, bookOf}
@@ -94,6 +94,9 @@ slot k = let l = k .row in record { in-table = omega arith; from = k .first; to 
 -- capacity left
 pub left-at : (b : List ℕ) (l h : ℕ) → InHour l h → leftAt (bookOf b) l h ≡ cell b (OFFERED + place l h) - cell b (GRANTED + place l h)
 left-at b l h p = rw (offered-place b l h p, granted-place b l h p)
+
+pub shortfall-at : (b : List ℕ) (l h : ℕ) → InHour l h → shortfallAt (bookOf b) l h ≡ cell b (GRANTED + place l h) - cell b (OFFERED + place l h)
+shortfall-at b l h p = rw (offered-place b l h p, granted-place b l h p)
 
 -- ---- profiles
 

@@ -59,6 +59,9 @@ program-demand3 n day r first last cs rs o k =
     record {
       left-of-direction = λ e hour x p. p .reply ∙ rw (f .replies, f .book) at (d .left-of-direction e hour);
       left-of-profile = λ e hour x p. p .reply ∙ rw (f .replies, f .book) at (d .left-of-profile e hour);
+      direction-adds-up = λ e hour x p l m q. rw (← p .reply) at (rw (f .replies, f .book) at (d .direction-adds-up e hour (rw (f .replies) l) m q));
+      profile-adds-up = λ e hour x p l m q. rw (← p .reply) at (rw (f .replies, f .book) at (d .profile-adds-up e hour (rw (f .replies) l) m q));
+      bids-fit = rw (f .replies) at (d .bids-fit);
       direction-within = λ e hour l m q. rw (f .replies) at (d .direction-within e hour (rw (f .replies) l) m q);
       profile-within = λ e hour l m q. rw (f .replies) at (d .profile-within e hour (rw (f .replies) l) m q);
       the-rights = λ e x p. p .reply ∙ rw (f .replies, f .book) at (d .the-rights e);

@@ -4,16 +4,16 @@
 use Prim.Native.Nat.{ℕ, _+_, _≤_, _<_}
 use mathlib.Core.Path.{_≡_}
 use mathlib.Core.Bool.{cond}
-use mathlib.Core.List.{List, [], _∷_, map}
+use mathlib.Core.List.{List, [], _∷_, _++_, map}
 use lib.Dec.{eqb}
 use lib.ListN.{length, getD}
 use Rattle.rules.specs.Basics.{noMw}
 use Rattle.rules.specs.Book.{Direction, Right, ofProfile, right}
-use Rattle.rules.specs.Calls.{Call}
+use Rattle.rules.specs.Calls.{Call, Bid}
 use Rattle.rules.specs.Said.{said}
 use Rattle.rules.specs.Opening.{dayHours}
-use Rattle.rules.specs.History.{Key, grantedCalls, grants, directionsOf, profilesOf, lastOffer, bidSum, rightsFrom, rightSum, pairsFrom, lastSide, confirmedBy}
-use Rattle.rules.specs.Demand3.{leftBy, rightReply}
+use Rattle.rules.specs.History.{Key, grantedCalls, grants, directionsOf, profilesOf, lastOffer, grantedMw, leftMw, shortfallMw, rightsFrom, rightSum, pairsFrom, lastSide, confirmedBy}
+use Rattle.rules.specs.Demand3.{leftBy, rightReply, BidFits}
 use Rattle.rules.specs.declared.Answer.{Answer}
 use Rattle.cells.specs.View.{bookOf}
 use Rattle.answers.specs.declared.LeftRead.{LeftRead}
@@ -44,19 +44,36 @@ module _ (n day : ℕ) (first : List ℕ) (cs : List Call) (rs : List Answer) (l
   abbrev pub rights : List Right
   rights = rightsFrom directions [] granted
 
-  -- the MW of the granted bids
+  -- the last granted offer, and the MW of the granted bids
+  abbrev pub offerOf : ℕ → ℕ → ℕ
+  offerOf row hour = lastOffer row hour 0 granted
+
   abbrev pub mwOf : ℕ → ℕ → ℕ
-  mwOf row hour = bidSum (dayHours n day) directions profiles row hour granted
+  mwOf row hour = grantedMw (dayHours n day) granted row hour
+
+  -- left and shortfall: the differences between the two, 0 where negative
+  abbrev pub leftOf : ℕ → ℕ → ℕ
+  leftOf row hour = leftMw (dayHours n day) granted row hour
+
+  abbrev pub shortfallOf : ℕ → ℕ → ℕ
+  shortfallOf row hour = shortfallMw (dayHours n day) granted row hour
 
   pub record DayHolds : Type 0 where
-    -- capacity left, never negative: in each hour of the day the granted MW are within the last granted offer
+    -- capacity left and shortfall
     pub left-of-direction : (d hour : ℕ) (x : LeftRead) → ReadsDirection last d hour x
-        → saidLeft x ≡ leftBy (length directions) (dayHours n day) d hour (lastOffer d hour 0 granted) (mwOf d hour)
+        → saidLeft x ≡ leftBy (length directions) (dayHours n day) d hour (leftOf d hour) (shortfallOf d hour)
     pub left-of-profile : (p hour : ℕ) (x : LeftRead) → ReadsProfile last p hour x
-        → saidLeft x ≡ leftBy (length profiles) (dayHours n day) p hour (lastOffer (ofProfile p) hour 0 granted) (mwOf (ofProfile p) hour)
-    pub direction-within : (d hour : ℕ) → d < length directions → 1 ≤ hour → hour ≤ dayHours n day → mwOf d hour ≤ lastOffer d hour 0 granted
-    pub profile-within : (p hour : ℕ) → p < length profiles → 1 ≤ hour → hour ≤ dayHours n day
-        → mwOf (ofProfile p) hour ≤ lastOffer (ofProfile p) hour 0 granted
+        → saidLeft x ≡ leftBy (length profiles) (dayHours n day) p hour (leftOf (ofProfile p) hour) (shortfallOf (ofProfile p) hour)
+    -- hence, in each hour of the day, left + granted = offer + shortfall
+    pub direction-adds-up : (d hour : ℕ) (x : LeftRead) → ReadsDirection last d hour x → d < length directions → 1 ≤ hour → hour ≤ dayHours n day
+        → x .left + mwOf d hour ≡ offerOf d hour + x .shortfall
+    pub profile-adds-up : (p hour : ℕ) (x : LeftRead) → ReadsProfile last p hour x → p < length profiles → 1 ≤ hour → hour ≤ dayHours n day
+        → x .left + mwOf (ofProfile p) hour ≡ offerOf (ofProfile p) hour + x .shortfall
+    -- each bid, at whatever place of the chain it was granted, fits there; so granted MW are never above 9,999, the most that can be offered
+    pub bids-fit : (earlier later : List Call) (time p d session : ℕ) (mw : List ℕ) → granted ≡ earlier ++ (Bid time p d session mw ∷ later)
+        → BidFits (dayHours n day) earlier (Bid time p d session mw)
+    pub direction-within : (d hour : ℕ) → d < length directions → 1 ≤ hour → hour ≤ dayHours n day → mwOf d hour ≤ 9999
+    pub profile-within : (p hour : ℕ) → p < length profiles → 1 ≤ hour → hour ≤ dayHours n day → mwOf (ofProfile p) hour ≤ 9999
     -- the rights, and their sums
     pub the-rights : (r : ℕ) (x : RightRead) → ReadsRight last r x → saidRight x ≡ rightReply rights r
     pub the-sums : (d hour : ℕ) → d < length directions → rightSum (dayHours n day) directions d hour rights ≡ mwOf d hour

@@ -10,7 +10,7 @@ use borrow.Author.Tests.{leb-true, ltb-true, not-false}
 use Rattle.rules.specs.Sessions.{sessionThere}
 use Rattle.rules.specs.Book.{Book, modelOf, directionLimit}
 use Rattle.rules.specs.Calls.{Match}
-use Rattle.rules.specs.Refusals.{order, firstOf, setupShut, taken, wrongHours, noAccess, notOwner, full, below, shortageOf, directionUnknown, sessionUnknown, refuses}
+use Rattle.rules.specs.Refusals.{order, firstOf, setupShut, taken, wrongHours, noAccess, notOwner, full, shortageOf, directionUnknown, sessionUnknown, refuses}
 use Rattle.rules.proofs.Bools.{or-left, or-right, and-left, and-right}
 use Rattle.cells.specs.View.{dayHoursIn, directionAt, bookOf}
 use Rattle.cells.proofs.Views.{known-direction, model-at, hours-within}
@@ -18,7 +18,7 @@ use Rattle.answers.proofs.Laws.{Left}
 
 -- the numbers that can apply to a matching
 pub match-left : (b : Book) (t d s : ℕ) → Left b (Match t d s) (3 ∷ 5 ∷ 6 ∷ 16 ∷ 8 ∷ 12 ∷ [])
-unfolding firstOf order refuses setupShut taken wrongHours noAccess notOwner full below shortageOf
+unfolding firstOf order refuses setupShut taken wrongHours noAccess notOwner full shortageOf
 match-left b t d s = record { number-is = refl }
 
 -- ---- the direction and the session

@@ -8,7 +8,7 @@ use lib.ListN.{length}
 use borrow.Author.Tests.{leb-false}
 use Rattle.rules.specs.Book.{Book, partyLimit, rightLimit}
 use Rattle.rules.specs.Calls.{Nominate}
-use Rattle.rules.specs.Refusals.{order, firstOf, setupShut, taken, cycle, below, shortageOf, refuses, partyUnknown, rightUnknown}
+use Rattle.rules.specs.Refusals.{order, firstOf, setupShut, taken, cycle, shortageOf, refuses, partyUnknown, rightUnknown}
 use Rattle.rules.proofs.Bools.{or-left, or-right}
 use Rattle.cells.specs.Layout.{PARTIES, RIGHTS}
 use Rattle.cells.specs.View.{counted, bookOf}
@@ -17,7 +17,7 @@ use Rattle.answers.proofs.Laws.{Left}
 
 -- the numbers that can apply to a nomination
 pub nomination-left : (b : Book) (t p o r side : ℕ) (mw : List ℕ) → Left b (Nominate t p o r side mw) (3 ∷ 5 ∷ 6 ∷ 16 ∷ 8 ∷ 9 ∷ 10 ∷ 11 ∷ 13 ∷ [])
-unfolding firstOf order refuses setupShut taken cycle below shortageOf
+unfolding firstOf order refuses setupShut taken cycle shortageOf
 nomination-left b t p o r side mw = record { number-is = refl }
 
 -- the sender and the right are there

@@ -26,11 +26,11 @@ use Rattle.answers.proofs.Laws.{Left, granted}
 use Rattle.offers.specs.Work.{Placed}
 
 -- the numbers that can apply to an offer
-pub direction-left : (b : Book) (t d h mw : ℕ) → Left b (OfferDirection t d h mw) (3 ∷ 5 ∷ 6 ∷ 16 ∷ 8 ∷ 14 ∷ [])
+pub direction-left : (b : Book) (t d h mw : ℕ) → Left b (OfferDirection t d h mw) (3 ∷ 5 ∷ 6 ∷ 16 ∷ 8 ∷ [])
 unfolding firstOf order refuses setupShut taken wrongHours noAccess notOwner cycle full shortageOf
 direction-left b t d h mw = record { number-is = refl }
 
-pub profile-left : (b : Book) (t p h mw : ℕ) → Left b (OfferProfile t p h mw) (3 ∷ 5 ∷ 6 ∷ 16 ∷ 8 ∷ 14 ∷ [])
+pub profile-left : (b : Book) (t p h mw : ℕ) → Left b (OfferProfile t p h mw) (3 ∷ 5 ∷ 6 ∷ 16 ∷ 8 ∷ [])
 unfolding firstOf order refuses setupShut taken wrongHours noAccess notOwner cycle full shortageOf
 profile-left b t p h mw = record { number-is = refl }
 

@@ -1,11 +1,8 @@
 // Offers. No call has a `requires`: each promise is an equation with the rules, whatever the cells hold.
 ghost use mathlib.Core.Path.{_≡_};
 ghost use mathlib.Core.Bool.{_||_};
-ghost use Prim.Native.Nat.{_+_, _<_};
 ghost use lib.Dec.{ltb};
-ghost use lib.ListN.{getD};
 ghost use Rattle.rules.specs.Windows.{latest, offerTiming};
-ghost use Rattle.rules.specs.Book.{place};
 ghost use Rattle.rules.specs.Calls.{OfferDirection, OfferProfile};
 ghost use Rattle.cells.specs.View.{InHour, bookOf};
 ghost use Rattle.answers.specs.Promises.{Judged, Answers};
@@ -34,14 +31,6 @@ fn timing(book: &Book, model: u32, hour: Hour, time: u32) -> Timing
     windows::offer_timing(hours, weekday, model, hour, time)
 }
 
-// Under the MW granted there.
-fn offer_below(book: &Book, row: u8, hour: Hour, mw: u16) -> bool
-    requires { ⌜ InHour row (hour .0) ⌝ }
-    ensures { λ r. ⌜ r ≡ ltb mw (getD (bookOf (now (book .entry)) .granted) (place row (hour .0)) 0) ⌝ }
-{
-    (mw as u32) < tables::granted_at(book, row, hour)
-}
-
 fn direction_verdict(book: &Book, time: u32, direction: u8, hour: Hour, mw: u16) -> Verdict
     ensures { λ r. ⌜ Judged (bookOf (now (book .entry))) (OfferDirection time direction (hour .0) mw) r ⌝ }
 {
@@ -55,13 +44,7 @@ fn direction_verdict(book: &Book, time: u32, direction: u8, hour: Hour, mw: u16)
         return Verdict::No(Answer::Unknown);
     }
     let model = tables::model_of(book, direction);
-    if let Verdict::No(answer) = answers::window_verdict(timing(book, model, hour, time)) {
-        return Verdict::No(answer);
-    }
-    if offer_below(book, direction, hour, mw) {
-        return Verdict::No(Answer::Below);
-    }
-    Verdict::Clear
+    answers::window_verdict(timing(book, model, hour, time))
 }
 
 fn profile_verdict(book: &Book, time: u32, profile: u8, hour: Hour, mw: u16) -> Verdict
@@ -76,18 +59,12 @@ fn profile_verdict(book: &Book, time: u32, profile: u8, hour: Hour, mw: u16) -> 
     if answers::profile_hour_unknown(book, profile, hour) {
         return Verdict::No(Answer::Unknown);
     }
-    if let Verdict::No(answer) = answers::window_verdict(timing(book, 1, hour, time)) {
-        return Verdict::No(answer);
-    }
-    if offer_below(book, cells::PROFILE_ROW + profile, hour, mw) {
-        return Verdict::No(Answer::Below);
-    }
-    Verdict::Clear
+    answers::window_verdict(timing(book, 1, hour, time))
 }
 
 // ---- the calls
 
-// The MW of a row in an hour: what is then left.
+// The MW of a row in an hour, also fewer than are granted there: what is then left.
 fn place_offer(book: &mut Book, time: u32, row: u8, hour: Hour, mw: u16) -> u32
     requires { ⌜ InHour row (hour .0) ⌝ }
     ensures { λ r. ⌜ Placed (now (book .entry)) time row (hour .0) mw r (now (book .exit)) ⌝ }

@@ -1,11 +1,11 @@
-// The reads of capacity left and of rights. No read has a `requires`: each promise is an equation with the rules, whatever the cells hold.
+// The reads of capacity left, with the shortfall, and of rights. No read has a `requires`: each promise is an equation with the rules, whatever the cells hold.
 ghost use mathlib.Core.Path.{_≡_};
 ghost use Prim.Native.Nat.{_<_};
 ghost use Rattle.rules.specs.Book.{rightLimit};
 ghost use Rattle.rules.specs.declared.Answer.the-variants.{Granted};
 ghost use Rattle.cells.specs.View.{InHour, rightAt};
 ghost use Rattle.answers.specs.Promises.{ReadsDirection, ReadsProfile, ReadsRight};
-ghost use Rattle.reads.specs.Work.{leftIn, readOf};
+ghost use Rattle.reads.specs.Work.{unknownLeft, leftIn, readOf};
 use answers::LeftRead;
 use answers::RightRead;
 use cells::Book;
@@ -13,7 +13,18 @@ use rules::Answer;
 use rules::Hour;
 use rules::Session;
 
-// ---- capacity left
+// ---- capacity left and shortfall
+
+// The read of what isn't there.
+fn left_unknown() -> LeftRead
+    ensures { λ r. ⌜ r ≡ unknownLeft ⌝ }
+{
+    LeftRead {
+        answer: Answer::Unknown,
+        left: 0,
+        shortfall: 0,
+    }
+}
 
 // The read of a row that is there.
 fn left_read(book: &Book, row: u8, hour: Hour) -> LeftRead
@@ -23,6 +34,7 @@ fn left_read(book: &Book, row: u8, hour: Hour) -> LeftRead
     LeftRead {
         answer: Answer::Granted(0),
         left: tables::left_at(book, row, hour),
+        shortfall: tables::shortfall_at(book, row, hour),
     }
 }
 
@@ -30,10 +42,7 @@ pub fn left_of_direction(book: &Book, direction: u8, hour: Hour) -> LeftRead
     ensures { λ r. ⌜ ReadsDirection (now (book .entry)) direction (hour .0) r ⌝ }
 {
     if answers::direction_hour_unknown(book, direction, hour) {
-        return LeftRead {
-            answer: Answer::Unknown,
-            left: 0,
-        };
+        return left_unknown();
     }
     left_read(book, direction, hour)
 }
@@ -42,10 +51,7 @@ pub fn left_of_profile(book: &Book, profile: u8, hour: Hour) -> LeftRead
     ensures { λ r. ⌜ ReadsProfile (now (book .entry)) profile (hour .0) r ⌝ }
 {
     if answers::profile_hour_unknown(book, profile, hour) {
-        return LeftRead {
-            answer: Answer::Unknown,
-            left: 0,
-        };
+        return left_unknown();
     }
     left_read(book, cells::PROFILE_ROW + profile, hour)
 }

@@ -55,7 +55,10 @@ fn number_of(answer: Answer) -> Numbers {
 
 fn of_left(read: LeftRead) -> Numbers {
     let answer = read.answer;
-    and(number_of(answer), read.left as u64)
+    and(
+        and(number_of(answer), read.left as u64),
+        read.shortfall as u64,
+    )
 }
 
 fn and_five(before: Numbers, mw: [u32; 5]) -> Numbers {

@@ -6,15 +6,16 @@ use rehearse_text::fill_entry;
 use rehearse_text::none;
 
 // In the order of the numbers below; first the numbers of an answer, by their count.
-const FORMS: [u8; 1207] = *b"\
-    ;; -> A B  ; -> A B C  ;;; -> A B C D E F  ;;; -> A B C D E F G H I  ;\
+const FORMS: [u8; 1219] = *b"\
+    ;;; -> A B C  ;;; -> A B C D E F  ;;; -> A B C D E F G H I  ;\
     granted;granted: direction B;granted: profile B;granted: party B;\
     granted: B MW left;granted: B MW left;granted: right B;granted;granted: B rights;\
     B MW left;B MW left;party B, direction C, session D, E F G H I MW;B C D E F MW confirmed;\
-    record;day;field;set-up shut;clock;unknown;taken;too late;hours;access;owner;cycle;full;below;\
+    record;day;field;set-up shut;clock;unknown;taken;too late;hours;access;owner;cycle;full;;\
     short: hour B, direction;too early;\
     short: hour B, profile C;\
     granted: B right;\
+    B MW left, shortfall C MW;\
     granted;\
     granted: above the right in hour A of the session;\
     granted: above the right in hours A B of the session;\
@@ -39,26 +40,29 @@ pub const SHORT_OF_PROFILE: usize = 39;
 
 pub const ONE_RIGHT: usize = 40;
 
+// Of a read of what is left.
+pub const SHORTFALL: usize = 41;
+
 // With the count of the hours, from 0.
-pub const ABOVE: usize = 41;
+pub const ABOVE: usize = 42;
 
-pub const DIFFERS: usize = 47;
+pub const DIFFERS: usize = 48;
 
-pub const EXPECTED: usize = 48;
+pub const EXPECTED: usize = 49;
 
-pub const TOO_LARGE: usize = 49;
+pub const TOO_LARGE: usize = 50;
 
-pub const CUT: usize = 50;
+pub const CUT: usize = 51;
 
-pub const UNOPENED: usize = 51;
+pub const UNOPENED: usize = 52;
 
-pub const TOO_LONG: usize = 52;
+pub const TOO_LONG: usize = 53;
 
 // With the number of a mark, from 0.
-pub const WANTED: usize = 53;
+pub const WANTED: usize = 54;
 
 // One more where one line differs.
-pub const COUNTS: usize = 60;
+pub const COUNTS: usize = 61;
 
 pub fn say(text: &mut Text, at: usize, entry: usize, numbers: Numbers) -> usize {
     fill_entry(text, at, &FORMS, entry, numbers)

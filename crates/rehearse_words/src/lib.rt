@@ -36,6 +36,11 @@ fn numbers_named(kind: usize, mut numbers: Numbers) -> Numbers {
     numbers
 }
 
+// A read of what is left, which answers the shortfall too.
+fn is_left(kind: usize) -> bool {
+    kind == rehearse_lines::LEFT || kind == rehearse_lines::LEFT_OF_PROFILE
+}
+
 fn form_of_grant(kind: usize, numbers: Numbers) -> usize {
     let detail = number_at(numbers, 1);
     if kind == rehearse_lines::NOMINATE {
@@ -43,6 +48,9 @@ fn form_of_grant(kind: usize, numbers: Numbers) -> usize {
     }
     if kind == rehearse_lines::MATCH && detail == 1 {
         return forms::ONE_RIGHT;
+    }
+    if is_left(kind) && number_at(numbers, 2) != 0 {
+        return forms::SHORTFALL;
     }
     wrapping_add_usize(forms::GRANTED, kind)
 }

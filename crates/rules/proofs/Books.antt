@@ -1,10 +1,10 @@
--- What holds of every book that calls have made: the tables' limits, the sizes of the lists, and granted MW within the offers.
+-- What holds of every book that calls have made: the tables' limits, the sizes of the lists, and no MW above 9,999.
 -- Assumes nothing.
 use Prim.Native.Nat.{ℕ, zero, suc, _+_, _-_, _/_, _%_, _≤_, _<_, zero-le}
 use mathlib.Core.Path.{_≡_, refl, sym, ap, _∙_}
 use mathlib.Core.Bool.{Bool, true, false, cond, _||_, _&&_, not, true≢false}
 use mathlib.Core.List.{List, [], _∷_, _++_}
-use native.Mathlib.Nat.{add-zero, zero-add, suc-add, add-suc, le-refl}
+use native.Mathlib.Nat.{add-zero, zero-add, suc-add, add-suc}
 use native.Mathlib.Omega.{arith}
 use lib.Dec.{eqb, leb, ltb}
 use lib.ListN.{length, getD, set, length-append, length-set, replicate, length-replicate, List·getD-eq-default}
@@ -17,7 +17,7 @@ use Rattle.rules.specs.Book.{Direction, Party, Right, Pair, Book, direct
 use Rattle.rules.specs.Calls.{Call, AddDirection, AddProfile, AddParty, OfferDirection, OfferProfile, Bid, Nominate, Match}
 use Rattle.rules.specs.Bids.{isShort, shortage, share, withBid, isRightOf, rightTaken, addedRight, withRight}
 use Rattle.rules.specs.Nominations.{outOf, intoOf, isPairOf, pairTaken, withPair}
-use Rattle.rules.specs.Refusals.{order, refuses, field, setupShut, full, unknown, hourUnknown, below, shortageOf}
+use Rattle.rules.specs.Refusals.{order, refuses, field, setupShut, full, unknown, hourUnknown, shortageOf}
 use Rattle.rules.specs.Effects.{isTimed, directionsAfter, profilesAfter, partiesAfter, offeredAfter, grantedAfter, rightsAfter, pairsAfter, effect}
 use Rattle.rules.specs.Demand3.{WithinLimits}
 use Rattle.rules.proofs.Bools.{or-left, or-right, or-true}
@@ -70,11 +70,12 @@ pub record Tables (n : ℕ) (ds : List Direction) (maps : List ℕ) (ps : List P
   pub profiles : length maps ≤ 8
   pub parties : length ps ≤ partyLimit
 
+-- granted MW may be above the offer, but each bid fitted the offer of its moment
 pub record Capacities (offers grants : List ℕ) : Type 0 where
   pub offered : length offers ≡ 800
   pub granted : length grants ≡ 800
-  pub within : (i : ℕ) → getD grants i 0 ≤ getD offers i 0
-  pub bounded : (i : ℕ) → getD offers i 0 ≤ 9999
+  pub offers-within : (i : ℕ) → getD offers i 0 ≤ 9999
+  pub grants-within : (i : ℕ) → getD grants i 0 ≤ 9999
 
 pub record Entries (rs : List Right) (ps : List Pair) : Type 0 where
   pub rights : length rs ≤ rightLimit
@@ -118,24 +119,18 @@ profile-there b s p hour e = there b s p (length (b .profiles)) 8 hour e (s .0 .
 
 -- ---- offers
 
--- an offer within 9,999 and not under the MW granted there
-offer-capacities : (offers grants : List ℕ) (j mw : ℕ) → Capacities offers grants → j < 800 → mw ≤ 9999 → getD grants j 0 ≤ mw
-    → Capacities (set offers j mw) grants
-offer-capacities offers grants j mw s l m h =
+offer-capacities : (offers grants : List ℕ) (j mw : ℕ) → Capacities offers grants → j < 800 → mw ≤ 9999 → Capacities (set offers j mw) grants
+offer-capacities offers grants j mw s l m =
     record {
       offered = length-set offers j mw ∙ s .offered;
       granted = s .granted;
-      within = λ i. within-at i (eqb i j) refl;
-      bounded = λ i. bounded-at i (eqb i j) refl;
+      offers-within = λ i. at i (eqb i j) refl;
+      grants-within = s .grants-within;
     }
   where
-    within-at : (i : ℕ) (t : Bool) → eqb i j ≡ t → getD grants i 0 ≤ getD (set offers j mw) i 0
-    within-at i true e = rw (eqb-true i j e, getD-set-same offers j mw 0 (omega (arith, s .offered))) h
-    within-at i false e = rw (getD-set-other offers j i mw 0 (eqb-false i j e)) (s .within i)
-
-    bounded-at : (i : ℕ) (t : Bool) → eqb i j ≡ t → getD (set offers j mw) i 0 ≤ 9999
-    bounded-at i true e = rw (eqb-true i j e, getD-set-same offers j mw 0 (omega (arith, s .offered))) m
-    bounded-at i false e = rw (getD-set-other offers j i mw 0 (eqb-false i j e)) (s .bounded i)
+    at : (i : ℕ) (t : Bool) → eqb i j ≡ t → getD (set offers j mw) i 0 ≤ 9999
+    at i true e = rw (eqb-true i j e, getD-set-same offers j mw 0 (omega (arith, s .offered))) m
+    at i false e = rw (getD-set-other offers j i mw 0 (eqb-false i j e)) (s .offers-within i)
 
 -- ---- the granted MW with a bid
 
@@ -174,17 +169,18 @@ bid-capacities b d first mw s e =
     record {
       offered = s .offered;
       granted = length-withBid (b .profiles) d first mw 0 (b .granted) ∙ s .granted;
-      within = λ i. go i (ltb i 800) refl;
-      bounded = s .bounded;
+      offers-within = s .offers-within;
+      grants-within = λ i. go i (ltb i 800) refl;
     }
   where
-    go : (i : ℕ) (t : Bool) → ltb i 800 ≡ t → getD (withBid (b .profiles) d first mw 0 (b .granted)) i 0 ≤ getD (b .offered) i 0
+    -- with nothing left, the bid takes nothing
+    go : (i : ℕ) (t : Bool) → ltb i 800 ≡ t → getD (withBid (b .profiles) d first mw 0 (b .granted)) i 0 ≤ 9999
     go i true q =
         let l = ltb-true i 800 q in
         let f = bid-fits b d first mw e (i / 25) (1 + i % 25) in
         let p : place (i / 25) (1 + i % 25) ≡ i = omega arith in
         let f′ : share (b .profiles) d first mw (i / 25) (1 + i % 25) ≤ getD (b .offered) i 0 - getD (b .granted) i 0 = rw p at f in
-        rw (getD-withBid (b .profiles) d first mw (b .granted) i (omega (arith, s .granted))) (omega (arith, s .within i))
+        rw (getD-withBid (b .profiles) d first mw (b .granted) i (omega (arith, s .granted))) (omega (arith, s .offers-within i, s .grants-within i))
     go i false q =
         let l = ltb-false i 800 q in
         rw (past-withBid (b .profiles) d first mw (b .granted) i (omega (arith, s .granted))) zero-le
@@ -245,7 +241,7 @@ one-more : {A : Type 0} (xs : List A) (x : A) (most : ℕ) → leb most (length 
 one-more xs x most e = rw (length-one-more xs x) (leb-false most (length xs) e)
 
 pub sound-step : (b : Book) (c : Call) → Granted b c → Sound b → Sound (effect b c)
-unfolding order has refuses field full unknown below shortageOf effect directionsAfter profilesAfter partiesAfter offeredAfter grantedAfter rightsAfter pairsAfter
+unfolding order has refuses field full unknown shortageOf effect directionsAfter profilesAfter partiesAfter offeredAfter grantedAfter rightsAfter pairsAfter
 sound-step b (AddDirection o i m) g s = (
   record {
     hours-from = s .0 .hours-from;
@@ -283,14 +279,14 @@ sound-step b (OfferDirection time d hour mw) g s =
     let t = direction-there b s d hour (fails g 6 tt) in (
       s .0,
       offer-capacities (b .offered) (b .granted) (place d hour) mw (s .1) (omega arith)
-          (ltb-false 9999 mw (or-right (ltb latest time) _ (fails g 3 tt))) (ltb-false mw _ (fails g 14 tt)),
+          (ltb-false 9999 mw (or-right (ltb latest time) _ (fails g 3 tt))),
       s .2,
     )
 sound-step b (OfferProfile time p hour mw) g s =
     let t = profile-there b s p hour (fails g 6 tt) in (
       s .0,
       offer-capacities (b .offered) (b .granted) (place (ofProfile p) hour) mw (s .1) (omega arith)
-          (ltb-false 9999 mw (or-right (ltb latest time) _ (fails g 3 tt))) (ltb-false mw _ (fails g 14 tt)),
+          (ltb-false 9999 mw (or-right (ltb latest time) _ (fails g 3 tt))),
       s .2,
     )
 sound-step b (Bid time p d session mw) g s =
@@ -329,8 +325,8 @@ sound-opened n day f t = (
   record {
     offered = length-replicate {A = ℕ} 800 0;
     granted = length-replicate {A = ℕ} 800 0;
-    within = λ i. le-refl _;
-    bounded = λ i. rw (no-cell 800 i) zero-le;
+    offers-within = λ i. rw (no-cell 800 i) zero-le;
+    grants-within = λ i. rw (no-cell 800 i) zero-le;
   },
   record { rights = zero-le; pairs = zero-le },
 )

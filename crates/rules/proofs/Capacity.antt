@@ -1,4 +1,5 @@
--- Demand 3, capacity: at each hour, for each direction and profile, left + the MW of the granted bids is the last granted offer.
+-- Demand 3, capacity: at each hour, for each direction and profile, left and shortfall are the differences between the last granted offer and the MW of the
+-- granted bids.
 -- Assumes nothing.
 use Prim.Native.Nat.{ℕ, _+_, _-_, _≤_, _<_}
 use mathlib.Core.Path.{_≡_, refl, sym, _∙_}
@@ -8,13 +9,13 @@ use native.Mathlib.Omega.{arith}
 use lib.ListN.{getD, getD-replicate}
 use Rattle.rules.specs.Basics.{has}
 use Rattle.rules.specs.Sessions.{firstHour}
-use Rattle.rules.specs.Book.{Direction, Book, direction, leftAt, place, ofProfile, opened}
+use Rattle.rules.specs.Book.{Direction, Book, direction, leftAt, shortfallAt, place, ofProfile, opened}
 use Rattle.rules.specs.Calls.{Call, AddDirection, AddProfile, AddParty, OfferDirection, OfferProfile, Bid, Nominate, Match}
 use Rattle.rules.specs.Bids.{share}
 use Rattle.rules.specs.Refusals.{order, refuses, unknown}
 use Rattle.rules.specs.Effects.{directionsAfter, profilesAfter, offeredAfter, grantedAfter, effect}
 use Rattle.rules.specs.Run.{run}
-use Rattle.rules.specs.History.{directionsOf, profilesOf, offerAfter, lastOffer, bidMw, bidSum}
+use Rattle.rules.specs.History.{directionsOf, profilesOf, offerAfter, lastOffer, bidMw, bidSum, grantedMw}
 use Rattle.rules.proofs.Decisions.{Granted, fails}
 use Rattle.rules.proofs.Places.{place-row, place-hour, stored}
 use Rattle.rules.proofs.Histories.{after, AllGranted, history, run-follows}
@@ -140,47 +141,59 @@ module _ (n day : ℕ) (f : 23 ≤ n) (h : n ≤ 25) (row hour : ℕ) (l : row <
   offered-last gs g =
       offered-after row hour l p q (opened n day) gs g (sound-opened n day f h) ∙ rw (getD-replicate {A = ℕ} 800 (place row hour) 0 0 (omega arith))
 
--- at each hour, for each direction and each profile: granted MW are within the last granted offer, and left is the rest
-pub record Rest (left offer granted : ℕ) : Type 0 where
-  pub fits : granted ≤ offer
+-- left and shortfall are the differences between the last granted offer and the granted MW, which are at most 9,999
+pub record Balance (left shortfall offer granted : ℕ) : Type 0 where
   pub left-is : left ≡ offer - granted
-  pub adds-up : left + granted ≡ offer
+  pub shortfall-is : shortfall ≡ granted - offer
+  pub within : granted ≤ 9999
 
-rest : (o g offer granted : ℕ) → g ≡ granted → o ≡ offer → g ≤ o → Rest (o - g) offer granted
-rest o g offer granted p q h = record { fits = omega arith; left-is = omega arith; adds-up = omega arith }
+pub balance : (n day : ℕ) → 23 ≤ n → n ≤ 25 → (gs : List Call) → AllGranted (opened n day) gs → (row hour : ℕ) → row < 32 → 1 ≤ hour → hour ≤ 25
+    → let b : Book = after (opened n day) gs in
+    Balance (leftAt b row hour) (shortfallAt b row hour) (lastOffer row hour 0 gs) (grantedMw n gs row hour)
+balance n day f h gs g row hour l p q =
+    let o = offered-last n day f h row hour l p q gs g in
+    let t = granted-total n day f h row hour l p q gs g in
+    let s = sound-after (opened n day) gs g (sound-opened n day f h) in
+    record { left-is = rw (o, t); shortfall-is = rw (o, t); within = rw (← t) (s .1 .grants-within (place row hour)) }
 
-pub capacity : (n day : ℕ) → 23 ≤ n → n ≤ 25 → (cs : List Call) (row hour : ℕ) → row < 32 → 1 ≤ hour → hour ≤ 25
-    → let gs : List Call = history (opened n day) cs in
-    Rest (leftAt (run (opened n day) cs .book) row hour) (lastOffer row hour 0 gs) (bidSum n (directionsOf gs) (profilesOf gs) row hour gs)
-capacity n day f h cs row hour l p q =
-    let b : Book = opened n day in
-    let gs : List Call = history b cs in
-    let w = run-follows b cs in
-    let s = sound-after b gs (w .granted) (sound-opened n day f h) in
-    rw (w .book)
-    (rest _ _ _ _ (granted-total n day f h row hour l p q gs (w .granted)) (offered-last n day f h row hour l p q gs (w .granted)) (s .1 .within (place row hour)))
-
--- ---- what a run leaves of the day and of set-up
+-- ---- the day and set-up, after granted calls and after a run
 
 hours-after : (b : Book) (cs : List Call) → after b cs .hours ≡ b .hours
 unfolding effect
 hours-after b [] = refl
 hours-after b (c ∷ cs) = hours-after (effect b c) cs
 
+-- those of a book that was opened
+module _ (n day : ℕ) (gs : List Call) where
+  pub hours-opened : after (opened n day) gs .hours ≡ n
+  unfolding opened
+  hours-opened = hours-after (opened n day) gs
+
+  pub directions-opened : after (opened n day) gs .directions ≡ directionsOf gs
+  unfolding opened
+  directions-opened = directions-after (opened n day) gs
+
+  pub profiles-opened : after (opened n day) gs .profiles ≡ profilesOf gs
+  unfolding opened
+  profiles-opened = profiles-after (opened n day) gs
+
 module _ (n day : ℕ) (cs : List Call) where
   pub hours-run : run (opened n day) cs .book .hours ≡ n
-  unfolding opened
-  hours-run = rw (run-follows (opened n day) cs .book) (hours-after (opened n day) (history (opened n day) cs))
+  hours-run = rw (run-follows (opened n day) cs .book) (hours-opened n day (history (opened n day) cs))
 
   pub directions-run : run (opened n day) cs .book .directions ≡ directionsOf (history (opened n day) cs)
-  unfolding opened
-  directions-run = rw (run-follows (opened n day) cs .book) (directions-after (opened n day) (history (opened n day) cs))
+  directions-run = rw (run-follows (opened n day) cs .book) (directions-opened n day (history (opened n day) cs))
 
   pub profiles-run : run (opened n day) cs .book .profiles ≡ profilesOf (history (opened n day) cs)
-  unfolding opened
-  profiles-run = rw (run-follows (opened n day) cs .book) (profiles-after (opened n day) (history (opened n day) cs))
+  profiles-run = rw (run-follows (opened n day) cs .book) (profiles-opened n day (history (opened n day) cs))
 
   pub sound-run : 23 ≤ n → n ≤ 25 → Sound (run (opened n day) cs .book)
   sound-run f h =
       rw (run-follows (opened n day) cs .book)
       (sound-after (opened n day) (history (opened n day) cs) (run-follows (opened n day) cs .granted) (sound-opened n day f h))
+
+  pub balance-run : 23 ≤ n → n ≤ 25 → (row hour : ℕ) → row < 32 → 1 ≤ hour → hour ≤ 25
+      → let gs : List Call = history (opened n day) cs in
+      Balance (leftAt (run (opened n day) cs .book) row hour) (shortfallAt (run (opened n day) cs .book) row hour) (lastOffer row hour 0 gs) (grantedMw n gs row hour)
+  balance-run f h row hour l p q =
+      rw (run-follows (opened n day) cs .book) (balance n day f h (history (opened n day) cs) (run-follows (opened n day) cs .granted) row hour l p q)

@@ -78,7 +78,7 @@ in-order = refl
 
 each-once : EachOnce listed
 unfolding has
-each-once = (refl, (refl, (refl, (refl, (refl, (refl, (refl, (refl, (refl, (refl, (refl, (refl, (refl, (refl, (refl, (refl, tt))))))))))))))))
+each-once = (refl, (refl, (refl, (refl, (refl, (refl, (refl, (refl, (refl, (refl, (refl, (refl, (refl, (refl, (refl, tt)))))))))))))))
 
 -- one of the numbers; where the list unfolds, `tt` shows that n is in it
 pub at : (f : ℕ → Bool) (n : ℕ) (ns : List ℕ) → None f ns → T (has n ns) → f n ≡ false

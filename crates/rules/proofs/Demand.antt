@@ -1,6 +1,6 @@
 -- Demand 3, whole.
 -- Assumes nothing.
-use Prim.Native.Nat.{ℕ, _-_, _≤_, _<_}
+use Prim.Native.Nat.{ℕ, _+_, _-_, _≤_, _<_}
 use mathlib.Core.Path.{_≡_, refl, ap, _∙_}
 use mathlib.Core.Bool.{Bool, true, false, cond, _||_}
 use mathlib.Core.List.{List}
@@ -8,44 +8,54 @@ use native.Mathlib.Nat.{le-trans}
 use native.Mathlib.Omega.{arith}
 use lib.Dec.{leb, ltb, lit≤}
 use lib.ListN.{length}
-use borrow.Author.Tests.{leb-false, ltb-false}
-use Rattle.rules.specs.Book.{Book, leftAt, ofProfile, opened}
+use borrow.Author.Tests.{leb-false, ltb-false, lt-leb, le-ltb}
+use Rattle.rules.specs.Book.{Book, leftAt, shortfallAt, ofProfile, opened}
 use Rattle.rules.specs.Calls.{Call, noDetails}
 use Rattle.rules.specs.Refusals.{order, firstOf, hourUnknown}
 use Rattle.rules.specs.Run.{run}
 use Rattle.rules.specs.Opening.{opening, dayRefused, dayHours, dayWeekday}
 use Rattle.rules.specs.Reads.{leftReply, directionReadRefuses, readDirection, profileReadRefuses, readProfile, rightReadRefuses, readRight}
-use Rattle.rules.specs.History.{directionsOf, profilesOf, lastOffer, bidSum}
+use Rattle.rules.specs.History.{directionsOf, profilesOf, lastOffer, grantedMw, leftMw, shortfallMw}
 use Rattle.rules.specs.Demand3.{leftBy, rightReply, Holds, Demand3}
 use Rattle.rules.proofs.Bools.{or-left, or-right}
 use Rattle.rules.proofs.Histories.{history, struck}
 use Rattle.rules.proofs.Books.{limits}
-use Rattle.rules.proofs.Capacity.{Rest, capacity, hours-run, directions-run, profiles-run, sound-run}
+use Rattle.rules.proofs.Capacity.{Balance, balance-run, hours-run, directions-run, profiles-run, sound-run}
+use Rattle.rules.proofs.BidsFit.{bids-fit}
 use Rattle.rules.proofs.Rights.{rights, right-sums}
 use Rattle.rules.proofs.Matching.{confirmed-read, within-right, within-out, within-into}
 
 -- ---- the reads of what is left, and of a right
 
 -- what the reads of what is left answer, by the book's own tables
-direction-read : (b : Book) (d hour : ℕ) → readDirection b d hour ≡ leftReply (cond (leb (length (b .directions)) d || (ltb hour 1 || ltb (b .hours) hour)) 6 0) (leftAt b d hour)
+direction-read : (b : Book) (d hour : ℕ)
+    → readDirection b d hour ≡ leftReply (cond (leb (length (b .directions)) d || (ltb hour 1 || ltb (b .hours) hour)) 6 0) (leftAt b d hour) (shortfallAt b d hour)
 unfolding readDirection directionReadRefuses hourUnknown firstOf order
 direction-read b d hour = refl
 
-profile-read : (b : Book) (k hour : ℕ) → readProfile b k hour ≡ leftReply (cond (leb (length (b .profiles)) k || (ltb hour 1 || ltb (b .hours) hour)) 6 0) (leftAt b (ofProfile k) hour)
+profile-read : (b : Book) (k hour : ℕ)
+    → readProfile b k hour ≡ leftReply (cond (leb (length (b .profiles)) k || (ltb hour 1 || ltb (b .hours) hour)) 6 0) (leftAt b (ofProfile k) hour) (shortfallAt b (ofProfile k) hour)
 unfolding readProfile profileReadRefuses hourUnknown firstOf order
 profile-read b k hour = refl
 
--- what is left counts only where number and hour are there
-left-where : (count n x hour left offer granted : ℕ) → (x < count → 1 ≤ hour → hour ≤ n → left ≡ offer - granted)
-    → leftReply (cond (leb count x || (ltb hour 1 || ltb n hour)) 6 0) left ≡ leftBy count n x hour offer granted
-left-where count n x hour left offer granted same = go (leb count x || (ltb hour 1 || ltb n hour)) refl
+-- left and shortfall count only where number and hour are there
+left-where : (count n x hour left shortfall offer granted : ℕ) → (x < count → 1 ≤ hour → hour ≤ n → Balance left shortfall offer granted)
+    → leftReply (cond (leb count x || (ltb hour 1 || ltb n hour)) 6 0) left shortfall ≡ leftBy count n x hour (offer - granted) (granted - offer)
+left-where count n x hour left shortfall offer granted there = go (leb count x || (ltb hour 1 || ltb n hour)) refl
   where
     go : (t : Bool) → (leb count x || (ltb hour 1 || ltb n hour)) ≡ t
-        → leftReply (cond t 6 0) left ≡ cond t (record { reply = noDetails 6; left = 0 }) (record { reply = noDetails 0; left = offer - granted })
+        → leftReply (cond t 6 0) left shortfall
+        ≡ cond t (record { reply = noDetails 6; left = 0; shortfall = 0 }) (record { reply = noDetails 0; left = offer - granted; shortfall = granted - offer })
     go true e = refl
     go false e =
         let h = or-right (leb count x) _ e in
-        ap (leftReply 0) (same (leb-false count x (or-left _ _ e)) (ltb-false hour 1 (or-left _ _ h)) (ltb-false n hour (or-right (ltb hour 1) _ h)))
+        let b = there (leb-false count x (or-left _ _ e)) (ltb-false hour 1 (or-left _ _ h)) (ltb-false n hour (or-right (ltb hour 1) _ h)) in
+        rw (b .left-is, b .shortfall-is)
+
+-- and there left + granted = offer + shortfall
+adds-up : (count n x hour offer granted : ℕ) → x < count → 1 ≤ hour → hour ≤ n
+    → leftBy count n x hour (offer - granted) (granted - offer) .left + granted ≡ offer + leftBy count n x hour (offer - granted) (granted - offer) .shortfall
+adds-up count n x hour offer granted l p q = rw (lt-leb count x l, le-ltb hour 1 p, le-ltb n hour q) (omega arith)
 
 right-read : (b : Book) (r : ℕ) → readRight b r ≡ rightReply (b .rights) r
 unfolding readRight rightReadRefuses firstOf order
@@ -67,25 +77,32 @@ module _ (n day : ℕ) (f : 23 ≤ n) (t : n ≤ 25) (cs : List Call) where
   profile-there k l = omega (arith, sound-run n day cs f t .0 .profiles)
 
   of-direction : (d hour : ℕ) → d < length (directionsOf gs) → 1 ≤ hour → hour ≤ n
-      → Rest (leftAt end d hour) (lastOffer d hour 0 gs) (bidSum n (directionsOf gs) (profilesOf gs) d hour gs)
+      → Balance (leftAt end d hour) (shortfallAt end d hour) (lastOffer d hour 0 gs) (grantedMw n gs d hour)
   of-direction d hour l p q =
       let h = direction-there d (rw (directions-run n day cs) l) in
-      capacity n day f t cs d hour (omega arith) p (le-trans q t)
+      balance-run n day cs f t d hour (omega arith) p (le-trans q t)
 
   of-profile : (k hour : ℕ) → k < length (profilesOf gs) → 1 ≤ hour → hour ≤ n
-      → Rest (leftAt end (ofProfile k) hour) (lastOffer (ofProfile k) hour 0 gs) (bidSum n (directionsOf gs) (profilesOf gs) (ofProfile k) hour gs)
-  of-profile k hour l p q = capacity n day f t cs (ofProfile k) hour (profile-there k (rw (profiles-run n day cs) l)) p (le-trans q t)
+      → Balance (leftAt end (ofProfile k) hour) (shortfallAt end (ofProfile k) hour) (lastOffer (ofProfile k) hour 0 gs) (grantedMw n gs (ofProfile k) hour)
+  of-profile k hour l p q = balance-run n day cs f t (ofProfile k) hour (profile-there k (rw (profiles-run n day cs) l)) p (le-trans q t)
+
+  direction-is : (d hour : ℕ) → readDirection end d hour ≡ leftBy (length (directionsOf gs)) n d hour (leftMw n gs d hour) (shortfallMw n gs d hour)
+  direction-is d hour = direction-read end d hour ∙ rw (directions-run n day cs, hours-run n day cs) (left-where _ n d hour _ _ _ _ (of-direction d hour))
+
+  profile-is : (k hour : ℕ)
+      → readProfile end k hour ≡ leftBy (length (profilesOf gs)) n k hour (leftMw n gs (ofProfile k) hour) (shortfallMw n gs (ofProfile k) hour)
+  profile-is k hour = profile-read end k hour ∙ rw (profiles-run n day cs, hours-run n day cs) (left-where _ n k hour _ _ _ _ (of-profile k hour))
 
   holds : Holds (opened n day) n cs
   holds =
       record {
-        left-of-direction = λ d hour.
-            direction-read end d hour
-            ∙ rw (directions-run n day cs, hours-run n day cs) (left-where _ n d hour _ _ _ (λ l p q. of-direction d hour l p q .left-is));
-        left-of-profile = λ k hour.
-            profile-read end k hour ∙ rw (profiles-run n day cs, hours-run n day cs) (left-where _ n k hour _ _ _ (λ l p q. of-profile k hour l p q .left-is));
-        direction-within = λ d hour l p q. of-direction d hour l p q .fits;
-        profile-within = λ k hour l p q. of-profile k hour l p q .fits;
+        left-of-direction = direction-is;
+        left-of-profile = profile-is;
+        direction-adds-up = λ d hour l p q. rw (direction-is d hour) (adds-up _ n d hour _ _ l p q);
+        profile-adds-up = λ k hour l p q. rw (profile-is k hour) (adds-up _ n k hour _ _ l p q);
+        bids-fit = bids-fit n day f t cs;
+        direction-within = λ d hour l p q. of-direction d hour l p q .within;
+        profile-within = λ k hour l p q. of-profile k hour l p q .within;
         the-rights = λ r. right-read end r ∙ ap (λ rs. rightReply rs r) (rights n day f t cs);
         the-sums = λ d hour l. right-sums n _ _ d hour (direction-there d (rw (directions-run n day cs) l)) (history (opened n day) cs);
         the-confirmed = confirmed-read n day f t cs;

@@ -10,6 +10,7 @@ pub mod Capacity
 pub mod Sessions
 pub mod Timings
 pub mod RightsFit
+pub mod BidsFit
 pub mod Rights
 pub mod Pairs
 pub mod Matched

@@ -33,7 +33,7 @@ none-other n e = absurd (false≢true e)
 
 pub calls-listed : (b : Book) (c : Call) → Listed (refuses b c)
 unfolding refuses has
-calls-listed b c n = case n 3 _ _ refl (case n 4 _ _ refl (case n 5 _ _ refl (case n 6 _ _ refl (case n 7 _ _ refl (case n 16 _ _ refl (case n 8 _ _ refl (case n 9 _ _ refl (case n 10 _ _ refl (case n 11 _ _ refl (case n 12 _ _ refl (case n 13 _ _ refl (case n 14 _ _ refl (case n 15 _ _ refl (none-other n))))))))))))))
+calls-listed b c n = case n 3 _ _ refl (case n 4 _ _ refl (case n 5 _ _ refl (case n 6 _ _ refl (case n 7 _ _ refl (case n 16 _ _ refl (case n 8 _ _ refl (case n 9 _ _ refl (case n 10 _ _ refl (case n 11 _ _ refl (case n 12 _ _ refl (case n 13 _ _ refl (case n 15 _ _ refl (none-other n)))))))))))))
 
 pub openings-listed : (hours day : ℕ) → Listed (openingRefuses hours day)
 unfolding openingRefuses has

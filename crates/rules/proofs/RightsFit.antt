@@ -103,16 +103,16 @@ module _ (b : Book) (w : Sound b) (time p d session : ℕ) (mw : List ℕ) (g : 
   abbrev grants : List ℕ
   grants = withBid (b .profiles) d first mw 0 (b .granted)
 
-  direction-known : d < length (b .directions)
+  pub direction-known : d < length (b .directions)
   unfolding order has refuses unknown
   direction-known = leb-false (length (b .directions)) d (or-right (leb (length (b .parties)) p) _ (or-left _ _ (fails g 6 tt)))
 
-  session-known : sessionThere n model session ≡ true
+  pub session-known : sessionThere n model session ≡ true
   unfolding order has refuses unknown
   session-known = not-false _ (or-right (leb (length (b .parties)) p || leb (length (b .directions)) d) _ (fails g 6 tt))
 
   -- MW for an hour that the session lacks are 0
-  lacking : (k : ℕ) → hoursIn n model session ≤ k → getD mw k 0 ≡ 0
+  pub lacking : (k : ℕ) → hoursIn n model session ≤ k → getD mw k 0 ≡ 0
   unfolding order has refuses wrongHours hoursLacking
   lacking = zeros-from (hoursIn n model session) mw (or-left _ _ (fails g 9 tt))
 
@@ -137,7 +137,7 @@ module _ (b : Book) (w : Sound b) (time p d session : ℕ) (mw : List ℕ) (g : 
           ∙ rw (place-row d (first + k) (h .0) h′, place-hour d (first + k) (h .0) h′) (ap (λ (y : ℕ). getD (b .granted) (place d (first + k)) 0 + y) (share-is k))
       go false e = sym (rw (lacking k (ltb-false k (hoursIn n model session) e)))
 
-  -- no MW of a right are above the highest offer
+  -- no MW of a right are above 9,999
   room-bounded : (k : ℕ) → room n (b .directions) grants d session k ≤ 9999
   unfolding room effect grantedAfter
   room-bounded k = go (ltb k (hoursIn n model session))
@@ -145,7 +145,7 @@ module _ (b : Book) (w : Sound b) (time p d session : ℕ) (mw : List ℕ) (g : 
       go : (t : Bool) → cond t (getD grants (place d (first + k)) 0) 0 ≤ 9999
       go true =
           let s = sound-step b (Bid time p d session mw) g w in
-          le-trans (s .1 .within (place d (first + k))) (s .1 .bounded (place d (first + k)))
+          s .1 .grants-within (place d (first + k))
       go false = zero-le
 
   -- the right of this direction and session, with the bid

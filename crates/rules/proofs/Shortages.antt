@@ -22,7 +22,7 @@ use Rattle.rules.proofs.Decisions.{refused-so, passed, none-before, at,
 use Rattle.rules.proofs.Histories.{refused-step}
 
 -- a profile that is not there holds no direction
-no-bit : (d : ℕ) → bit 0 d ≡ false
+pub no-bit : (d : ℕ) → bit 0 d ≡ false
 unfolding bit
 no-bit d = rw (zero-div (2 ^ d))
 

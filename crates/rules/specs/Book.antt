@@ -109,9 +109,13 @@ party ps p = getD ps p (record { code = []; access = 0 })
 abbrev pub right : List Right → ℕ → Right
 right rs r = getD rs r (record { holder = 0; direction = 0; session = 0; mw = noMw })
 
--- capacity left: the offer less the granted MW
+-- capacity left: the offer less the granted MW, 0 where they exceed it
 abbrev pub leftAt : Book → ℕ → ℕ → ℕ
 leftAt b row hour = getD (b .offered) (place row hour) 0 - getD (b .granted) (place row hour) 0
+
+-- shortfall: by how much the granted MW exceed the offer, 0 where they don't (02, S-2)
+abbrev pub shortfallAt : Book → ℕ → ℕ → ℕ
+shortfallAt b row hour = getD (b .granted) (place row hour) 0 - getD (b .offered) (place row hour) 0
 
 abbrev pub modelOf : Book → ℕ → ℕ
 modelOf b d = direction (b .directions) d .model

@@ -11,7 +11,7 @@ use Rattle.rules.specs.Codes.{charValue, weightedSum, isCode}
 use Rattle.rules.specs.Calls.{Call, AddDirection, AddProfile, AddParty, OfferDirection, OfferProfile, Bid, Nominate, Match, Reply}
 use Rattle.rules.specs.Run.{Run, run}
 use Rattle.rules.specs.Opening.{opening}
-use Rattle.rules.specs.Reads.{readDirection, readConfirmed}
+use Rattle.rules.specs.Reads.{LeftReply, readDirection, readProfile, readConfirmed}
 use Rattle.rules.specs.Records.{recordOf, reading, fieldsOf, callOf}
 use Rattle.rules.specs.declared.CallRecord.{CallRecord}
 use Rattle.rules.specs.declared.Timing.{Timing}
@@ -35,6 +35,10 @@ yes-no b = cond b 1 0
 abbrev numbersOf : List Reply → List ℕ
 numbersOf [] = []
 numbersOf (r ∷ rs) = r .number ∷ r .first ∷ r .second ∷ numbersOf rs
+
+-- number, left and shortfall of a read
+abbrev leftNumbers : LeftReply → List ℕ
+leftNumbers r = r .reply .number ∷ r .left ∷ r .shortfall ∷ []
 
 -- first and last hour of a session of the four-hour model
 abbrev hoursOf : ℕ → ℕ → List ℕ
@@ -112,8 +116,7 @@ sentAgain =
     AddDirection 0 4 1 ∷ AddParty ceps 1 ∷ AddParty (uni 86) 2 ∷ OfferDirection 960 0 1 100
     ∷ Bid 1080 0 0 1 (one 101) ∷ Bid 1080 0 0 1 (one 0) ∷ Bid 1080 1 0 1 (one 60) ∷ Bid 1080 0 0 1 (one 60) ∷ []
 
--- the same at 1,290 after a bid at 1,289, an offer below what is granted and, at 1,350, a nomination of a right that neither party holds; last a bid before
--- the clock
+-- the same at 1,290 after a bid at 1,289, an offer and, at 1,350, a nomination of a right that neither party holds; last a bid before the clock
 abbrev lateCalls : List Call
 lateCalls =
     AddDirection 0 4 1 ∷ AddParty ceps 1 ∷ AddParty (uni 86) 2 ∷ OfferDirection 960 0 1 100 ∷ Bid 1289 0 0 1 (one 60)
@@ -150,6 +153,45 @@ sharedProfile =
     AddDirection 0 4 1 ∷ AddDirection 0 1 1 ∷ AddProfile 3 ∷ AddParty ceps 1
     ∷ OfferDirection 1000 0 1 100 ∷ OfferDirection 1000 1 1 100 ∷ OfferProfile 1000 0 1 120
     ∷ Bid 1100 0 0 1 (one 80) ∷ Bid 1100 0 1 1 (one 50) ∷ Bid 1100 0 1 1 (one 40) ∷ []
+
+-- 80 MW are granted in hour 1, and then the offer of 100 is cut to 79, which was refused with 14 before 02, S-2; a bid for 1 MW, and the cut to 0
+abbrev cutOffer : List Call
+cutOffer =
+    AddDirection 0 4 1 ∷ AddParty ceps 1 ∷ OfferDirection 1000 0 1 100 ∷ Bid 1100 0 0 1 (one 80)
+    ∷ OfferDirection 1100 0 1 79 ∷ Bid 1100 0 0 1 (one 1) ∷ []
+
+abbrev cutToZero : List Call
+cutToZero = cutOffer ++ (OfferDirection 1100 0 1 0 ∷ [])
+
+-- and raised again, to 90: of the 10 MW left, 11 are short and 10 are not
+abbrev raisedAgain : List Call
+raisedAgain = cutToZero ++ (OfferDirection 1100 0 1 90 ∷ Bid 1100 0 0 1 (one 11) ∷ Bid 1100 0 0 1 (one 10) ∷ [])
+
+-- directions 0 and 1 are offered 100 each and their profile 120, and 80 and 30 MW are granted: 110 of the profile
+abbrev sharedCut : List Call
+sharedCut =
+    AddDirection 0 4 1 ∷ AddDirection 0 1 1 ∷ AddProfile 3 ∷ AddParty ceps 1
+    ∷ OfferDirection 1000 0 1 100 ∷ OfferDirection 1000 1 1 100 ∷ OfferProfile 1000 0 1 120
+    ∷ Bid 1100 0 0 1 (one 80) ∷ Bid 1100 0 1 1 (one 30) ∷ []
+
+-- the profile is cut, or direction 0; then a bid for 1 MW on each direction
+abbrev profileCut : List Call
+profileCut = sharedCut ++ (OfferProfile 1100 0 1 50 ∷ Bid 1100 0 0 1 (one 1) ∷ Bid 1100 0 1 1 (one 1) ∷ [])
+
+abbrev directionCut : List Call
+directionCut = sharedCut ++ (OfferDirection 1100 0 1 20 ∷ Bid 1100 0 0 1 (one 1) ∷ Bid 1100 0 1 1 (one 1) ∷ [])
+
+-- what the reads of directions 0 and 1 and of their profile answer in hour 1
+abbrev readsOfHour1 : List Call → List ℕ
+readsOfHour1 cs =
+    leftNumbers (readDirection (monday cs .book) 0 1) ++ leftNumbers (readDirection (monday cs .book) 1 1) ++ leftNumbers (readProfile (monday cs .book) 0 1)
+
+-- session 1 of the four-hour model: hour 2 is cut under what is granted; then bids for hours 1 and 3, and for 1 MW in hour 2 too
+abbrev hourCut : List Call
+hourCut =
+    AddDirection 0 4 4 ∷ AddParty ceps 1 ∷ OfferDirection 1000 0 1 100 ∷ OfferDirection 1000 0 2 100 ∷ OfferDirection 1000 0 3 100
+    ∷ Bid 1100 0 0 1 (50 ∷ 60 ∷ 50 ∷ 0 ∷ 0 ∷ []) ∷ OfferDirection 1100 0 2 40
+    ∷ Bid 1100 0 0 1 (10 ∷ 0 ∷ 10 ∷ 0 ∷ 0 ∷ []) ∷ Bid 1100 0 0 1 (10 ∷ 1 ∷ 10 ∷ 0 ∷ 0 ∷ []) ∷ []
 
 -- party 0 nominates a right of 100 with itself (95 out, 90 in) and with party 1 (60 out, 70 in): m 90 and 60
 abbrev twoPairs : List Call
@@ -231,8 +273,8 @@ cases =
       computed = numbersOf (monday sentAgain .replies);
       said = 0 ∷ 0 ∷ 0 ∷ 0 ∷ 0 ∷ 0 ∷ 0 ∷ 1 ∷ 0 ∷ 0 ∷ 100 ∷ 0 ∷ 15 ∷ 1 ∷ 0 ∷ 9 ∷ 0 ∷ 0 ∷ 10 ∷ 0 ∷ 0 ∷ 0 ∷ 0 ∷ 0 ∷ [];
     }
-    -- a bid at 1,290 is too late, also where it is short, all zero or without access; so are an offer and a nomination at their close, also where 14 and
-    -- 11 would apply; 5 comes before 16
+    -- a bid at 1,290 is too late, also where it is short, all zero or without access; so are an offer at its close, and a nomination, also where 11 would
+    -- apply; 5 comes before 16
     ∷ record {
       computed = numbersOf (monday lateCalls .replies);
       said =
@@ -268,6 +310,50 @@ cases =
     ∷ record {
       computed = numbersOf (monday sharedProfile .replies);
       said = 0 ∷ 0 ∷ 0 ∷ 0 ∷ 1 ∷ 0 ∷ 0 ∷ 0 ∷ 0 ∷ 0 ∷ 0 ∷ 0 ∷ 0 ∷ 100 ∷ 0 ∷ 0 ∷ 100 ∷ 0 ∷ 0 ∷ 120 ∷ 0 ∷ 0 ∷ 0 ∷ 0 ∷ 15 ∷ 1 ∷ 1 ∷ 0 ∷ 1 ∷ 0 ∷ [];
+    }
+    -- 02, S-2: an offer cut to 79 under 80 granted is granted with nothing left, 1 MW is short, and the shortfall is 1; cut to 0 it is 80
+    ∷ record {
+      computed = numbersOf (monday cutOffer .replies);
+      said = 0 ∷ 0 ∷ 0 ∷ 0 ∷ 0 ∷ 0 ∷ 0 ∷ 100 ∷ 0 ∷ 0 ∷ 0 ∷ 0 ∷ 0 ∷ 0 ∷ 0 ∷ 15 ∷ 1 ∷ 0 ∷ [];
+    }
+    ∷ record {
+      computed = leftNumbers (readDirection (monday cutOffer .book) 0 1) ++ leftNumbers (readDirection (monday cutToZero .book) 0 1);
+      said = 0 ∷ 0 ∷ 1 ∷ 0 ∷ 0 ∷ 80 ∷ [];
+    }
+    -- raised to 90: 10 MW are left, and after the bid for 10 nothing, with no shortfall
+    ∷ record {
+      computed = numbersOf (monday raisedAgain .replies);
+      said =
+          0 ∷ 0 ∷ 0 ∷ 0 ∷ 0 ∷ 0 ∷ 0 ∷ 100 ∷ 0 ∷ 0 ∷ 0 ∷ 0 ∷ 0 ∷ 0 ∷ 0 ∷ 15 ∷ 1 ∷ 0
+          ∷ 0 ∷ 0 ∷ 0 ∷ 0 ∷ 10 ∷ 0 ∷ 15 ∷ 1 ∷ 0 ∷ 0 ∷ 1 ∷ 0 ∷ [];
+    }
+    ∷ record { computed = leftNumbers (readDirection (monday raisedAgain .book) 0 1); said = 0 ∷ 0 ∷ 0 ∷ [] }
+    -- the profile is cut to 50 under 110 and its directions are not: a shortfall of 60 for the profile alone, and both directions are short by it
+    ∷ record {
+      computed = numbersOf (monday profileCut .replies);
+      said =
+          0 ∷ 0 ∷ 0 ∷ 0 ∷ 1 ∷ 0 ∷ 0 ∷ 0 ∷ 0 ∷ 0 ∷ 0 ∷ 0 ∷ 0 ∷ 100 ∷ 0 ∷ 0 ∷ 100 ∷ 0 ∷ 0 ∷ 120 ∷ 0 ∷ 0 ∷ 0 ∷ 0 ∷ 0 ∷ 1 ∷ 0
+          ∷ 0 ∷ 0 ∷ 0 ∷ 15 ∷ 1 ∷ 1 ∷ 15 ∷ 1 ∷ 1 ∷ [];
+    }
+    ∷ record { computed = readsOfHour1 profileCut; said = 0 ∷ 20 ∷ 0 ∷ 0 ∷ 70 ∷ 0 ∷ 0 ∷ 0 ∷ 60 ∷ [] }
+    -- direction 0 is cut to 20 under 80 and the profile is not: a shortfall of 60 for that direction alone, and the other is still granted
+    ∷ record {
+      computed = numbersOf (monday directionCut .replies);
+      said =
+          0 ∷ 0 ∷ 0 ∷ 0 ∷ 1 ∷ 0 ∷ 0 ∷ 0 ∷ 0 ∷ 0 ∷ 0 ∷ 0 ∷ 0 ∷ 100 ∷ 0 ∷ 0 ∷ 100 ∷ 0 ∷ 0 ∷ 120 ∷ 0 ∷ 0 ∷ 0 ∷ 0 ∷ 0 ∷ 1 ∷ 0
+          ∷ 0 ∷ 0 ∷ 0 ∷ 15 ∷ 1 ∷ 0 ∷ 0 ∷ 2 ∷ 0 ∷ [];
+    }
+    ∷ record { computed = readsOfHour1 directionCut; said = 0 ∷ 0 ∷ 60 ∷ 0 ∷ 69 ∷ 0 ∷ 0 ∷ 9 ∷ 0 ∷ [] }
+    -- with a shortfall of 20 in hour 2 a bid with MW 0 there is granted for its other hours, and one with 1 MW there is short in hour 2
+    ∷ record {
+      computed = numbersOf (monday hourCut .replies);
+      said =
+          0 ∷ 0 ∷ 0 ∷ 0 ∷ 0 ∷ 0 ∷ 0 ∷ 100 ∷ 0 ∷ 0 ∷ 100 ∷ 0 ∷ 0 ∷ 100 ∷ 0 ∷ 0 ∷ 0 ∷ 0
+          ∷ 0 ∷ 0 ∷ 0 ∷ 0 ∷ 0 ∷ 0 ∷ 15 ∷ 2 ∷ 0 ∷ [];
+    }
+    ∷ record {
+      computed = leftNumbers (readDirection (monday hourCut .book) 0 1) ++ leftNumbers (readDirection (monday hourCut .book) 0 2);
+      said = 0 ∷ 40 ∷ 0 ∷ 0 ∷ 0 ∷ 20 ∷ [];
     }
     -- right 100: m 90, 60 give 60, 40; the last two nominations exceed the right on their side, and matching at 1,394 is too early
     ∷ record { computed = readConfirmed (monday twoPairs .book) 0 0 0 .mw ++ readConfirmed (monday twoPairs .book) 0 0 1 .mw; said = one 60 ++ one 40 }

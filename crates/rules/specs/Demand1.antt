@@ -21,9 +21,9 @@ abbrev pub None : (ℕ → Bool) → List ℕ → Type 0
 None f [] = Unit {0}
 None f (n ∷ ns) = (f n ≡ false) × None f ns
 
--- the numbers in the order in which they count: 01's, with 16 in 8's place, just before it (02, S-1)
+-- the numbers in the order in which they count: 01's, with 16 in 8's place, just before it (02, S-1), and without 14 (02, S-2)
 abbrev pub listed : List ℕ
-listed = 1 ∷ 2 ∷ 3 ∷ 4 ∷ 5 ∷ 6 ∷ 7 ∷ 16 ∷ 8 ∷ 9 ∷ 10 ∷ 11 ∷ 12 ∷ 13 ∷ 14 ∷ 15 ∷ []
+listed = 1 ∷ 2 ∷ 3 ∷ 4 ∷ 5 ∷ 6 ∷ 7 ∷ 16 ∷ 8 ∷ 9 ∷ 10 ∷ 11 ∷ 12 ∷ 13 ∷ 15 ∷ []
 
 -- no number stands twice
 abbrev pub EachOnce : List ℕ → Type 0

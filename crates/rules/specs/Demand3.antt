@@ -1,25 +1,26 @@
 -- Demand 3 as one claim about a list of calls on the book that an opening returned.
 -- Left of each equation stands what the reads answer after the list, right of it what the day, the calls and their replies give.
 -- Assumes nothing.
-use Prim.Native.Nat.{ℕ, _+_, _-_, _≤_, _<_}
+use Prim.Native.Nat.{ℕ, _+_, _≤_, _<_}
 use mathlib.Core.Path.{_≡_}
 use mathlib.Core.Bool.{cond, _||_}
-use mathlib.Core.List.{List, [], _∷_}
+use mathlib.Core.List.{List, [], _∷_, _++_}
 use lib.Dec.{eqb, leb, ltb}
 use lib.ListN.{length, getD}
 use Rattle.rules.specs.Basics.{noMw}
 use Rattle.rules.specs.Book.{Direction, Right, Book, ofProfile, right, directionLimit, pairLimit, partyLimit, profileLimit, rightLimit}
-use Rattle.rules.specs.Calls.{Call, noDetails}
+use Rattle.rules.specs.Calls.{Call, Bid, noDetails}
 use Rattle.rules.specs.Run.{run}
 use Rattle.rules.specs.Opening.{opening, dayHours}
 use Rattle.rules.specs.Reads.{LeftReply, RightReply, readDirection, readProfile, readRight, readConfirmed}
-use Rattle.rules.specs.History.{Key, grantedCalls, grants, directionsOf, profilesOf, lastOffer, bidSum, rightsFrom, rightSum, pairsFrom, lastSide, confirmedBy}
+use Rattle.rules.specs.History.{Key, grantedCalls, grants, directionsOf, profilesOf, lastOffer, bidMw, grantedMw, leftMw, shortfallMw, rightsFrom, rightSum, pairsFrom, lastSide, confirmedBy}
 
--- what is left of direction or profile number x, one of `count`, in an hour of a day with n: the last granted offer less the granted MW,
--- or 6 and 0 where it or the hour is not there
+-- the read of direction or profile number x, one of `count`, in an hour of a day with n: what is left and the shortfall, or 6 and zeros where it or the
+-- hour is not there
 abbrev pub leftBy : ℕ → ℕ → ℕ → ℕ → ℕ → ℕ → LeftReply
-leftBy count n x hour offer granted =
-    cond (leb count x || (ltb hour 1 || ltb n hour)) (record { reply = noDetails 6; left = 0 }) (record { reply = noDetails 0; left = offer - granted })
+leftBy count n x hour left shortfall =
+    cond (leb count x || (ltb hour 1 || ltb n hour)) (record { reply = noDetails 6; left = 0; shortfall = 0 })
+    (record { reply = noDetails 0; left = left; shortfall = shortfall })
 
 -- right number r of these, 6 and zeros where there is none
 abbrev pub rightReply : List Right → ℕ → RightReply
@@ -32,6 +33,12 @@ confirmedIn b k r o i = getD (readConfirmed b r o i .mw) k 0
 unfoldable pub confirmedTotal : Book → ℕ → ℕ → List Key → ℕ
 confirmedTotal b k r [] = 0
 confirmedTotal b k r (x ∷ xs) = cond (eqb (x .right) r) (confirmedIn b k (x .right) (x .out) (x .into)) 0 + confirmedTotal b k r xs
+
+-- a bid, by the granted calls before it: in each row and hour in which it takes MW, on its direction and on each profile that holds it, they give no
+-- shortfall (02, S-2), and its MW are within what they leave
+pub record BidFits (n : ℕ) (earlier : List Call) (bid : Call) : Type 0 where
+  pub no-shortfall : (row hour : ℕ) → 0 < bidMw n (directionsOf earlier) (profilesOf earlier) row hour bid → shortfallMw n earlier row hour ≡ 0
+  pub within-left : (row hour : ℕ) → bidMw n (directionsOf earlier) (profilesOf earlier) row hour bid ≤ leftMw n earlier row hour
 
 -- the limits of the tables
 pub record WithinLimits (b : Book) : Type 0 where
@@ -56,17 +63,35 @@ module _ (b : Book) (n : ℕ) (cs : List Call) where
   abbrev pub rights : List Right
   rights = rightsFrom directions [] granted
 
-  -- the MW of the granted bids
+  -- the last granted offer, and the MW of the granted bids
+  abbrev pub offerOf : ℕ → ℕ → ℕ
+  offerOf row hour = lastOffer row hour 0 granted
+
   abbrev pub mwOf : ℕ → ℕ → ℕ
-  mwOf row hour = bidSum n directions profiles row hour granted
+  mwOf row hour = grantedMw n granted row hour
+
+  -- left and shortfall: the differences between the two, 0 where negative
+  abbrev pub leftOf : ℕ → ℕ → ℕ
+  leftOf row hour = leftMw n granted row hour
+
+  abbrev pub shortfallOf : ℕ → ℕ → ℕ
+  shortfallOf row hour = shortfallMw n granted row hour
 
   pub record Holds : Type 0 where
-    -- capacity left, never negative: in each hour of the day the granted MW are within the last granted offer
-    pub left-of-direction : (d hour : ℕ) → readDirection (run b cs .book) d hour ≡ leftBy (length directions) n d hour (lastOffer d hour 0 granted) (mwOf d hour)
+    -- capacity left and shortfall
+    pub left-of-direction : (d hour : ℕ) → readDirection (run b cs .book) d hour ≡ leftBy (length directions) n d hour (leftOf d hour) (shortfallOf d hour)
     pub left-of-profile : (p hour : ℕ)
-        → readProfile (run b cs .book) p hour ≡ leftBy (length profiles) n p hour (lastOffer (ofProfile p) hour 0 granted) (mwOf (ofProfile p) hour)
-    pub direction-within : (d hour : ℕ) → d < length directions → 1 ≤ hour → hour ≤ n → mwOf d hour ≤ lastOffer d hour 0 granted
-    pub profile-within : (p hour : ℕ) → p < length profiles → 1 ≤ hour → hour ≤ n → mwOf (ofProfile p) hour ≤ lastOffer (ofProfile p) hour 0 granted
+        → readProfile (run b cs .book) p hour ≡ leftBy (length profiles) n p hour (leftOf (ofProfile p) hour) (shortfallOf (ofProfile p) hour)
+    -- hence, in each hour of the day, left + granted = offer + shortfall
+    pub direction-adds-up : (d hour : ℕ) → d < length directions → 1 ≤ hour → hour ≤ n
+        → readDirection (run b cs .book) d hour .left + mwOf d hour ≡ offerOf d hour + readDirection (run b cs .book) d hour .shortfall
+    pub profile-adds-up : (p hour : ℕ) → p < length profiles → 1 ≤ hour → hour ≤ n
+        → readProfile (run b cs .book) p hour .left + mwOf (ofProfile p) hour ≡ offerOf (ofProfile p) hour + readProfile (run b cs .book) p hour .shortfall
+    -- each bid, at whatever place of the list it was granted, fits there; so granted MW are never above 9,999, the most that can be offered
+    pub bids-fit : (earlier later : List Call) (time p d session : ℕ) (mw : List ℕ) → granted ≡ earlier ++ (Bid time p d session mw ∷ later)
+        → BidFits n earlier (Bid time p d session mw)
+    pub direction-within : (d hour : ℕ) → d < length directions → 1 ≤ hour → hour ≤ n → mwOf d hour ≤ 9999
+    pub profile-within : (p hour : ℕ) → p < length profiles → 1 ≤ hour → hour ≤ n → mwOf (ofProfile p) hour ≤ 9999
     -- the rights, and their sums; the MW on the right-hand side are plain sums
     pub the-rights : (r : ℕ) → readRight (run b cs .book) r ≡ rightReply rights r
     pub the-sums : (d hour : ℕ) → d < length directions → rightSum n directions d hour rights ≡ mwOf d hour

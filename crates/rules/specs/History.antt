@@ -2,7 +2,7 @@
 -- Shared with the book's effects are the session rule (`firstHour`), the hour that a bid's MW belong to (`mwAt`), the rows that hold a direction (`holds`)
 -- and, where 01 says "by the rule above", confirmed MW (`confirmedOf`). Offers, rights, pairs, sides and matchings are written down a second time.
 -- Assumes nothing.
-use Prim.Native.Nat.{ℕ, _+_, min}
+use Prim.Native.Nat.{ℕ, _+_, _-_, min}
 use mathlib.Core.Bool.{Bool, false, cond, _&&_, _||_, not}
 use mathlib.Core.List.{List, [], _∷_, _++_}
 use lib.Dec.{eqb, leb}
@@ -89,6 +89,18 @@ bidMw n ds maps row hour (Match time d session) = 0
 unfoldable pub bidSum : ℕ → List Direction → List ℕ → ℕ → ℕ → List Call → ℕ
 bidSum n ds maps row hour [] = 0
 bidSum n ds maps row hour (c ∷ cs) = bidMw n ds maps row hour c + bidSum n ds maps row hour cs
+
+-- on a day of n hours: the granted MW of a row in an hour
+abbrev pub grantedMw : ℕ → List Call → ℕ → ℕ → ℕ
+grantedMw n cs row hour = bidSum n (directionsOf cs) (profilesOf cs) row hour cs
+
+-- left: the last granted offer less the granted MW, 0 where they exceed it
+abbrev pub leftMw : ℕ → List Call → ℕ → ℕ → ℕ
+leftMw n cs row hour = lastOffer row hour 0 cs - grantedMw n cs row hour
+
+-- shortfall: the granted MW less the last granted offer, 0 where they don't exceed it (02, S-2)
+abbrev pub shortfallMw : ℕ → List Call → ℕ → ℕ → ℕ
+shortfallMw n cs row hour = grantedMw n cs row hour - lastOffer row hour 0 cs
 
 -- ---- rights: none at first; each granted bid in turn makes one or adds its five MW to one
 

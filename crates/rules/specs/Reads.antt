@@ -5,31 +5,32 @@ use mathlib.Core.Bool.{Bool, false, cond, _||_, not}
 use mathlib.Core.List.{List}
 use lib.Dec.{eqb}
 use Rattle.rules.specs.Basics.{noMw, five}
-use Rattle.rules.specs.Book.{Right, Book, ofProfile, right, leftAt}
+use Rattle.rules.specs.Book.{Right, Book, ofProfile, right, leftAt, shortfallAt}
 use Rattle.rules.specs.Calls.{Reply, noDetails}
 use Rattle.rules.specs.Nominations.{pairTaken, pairOf, confirmedAt}
 use Rattle.rules.specs.Refusals.{order, firstOf, directionUnknown, profileUnknown, rightUnknown, hourUnknown, isMatched}
 
--- ---- capacity left
+-- ---- capacity left, and with it the shortfall (02, S-2)
 
 pub record LeftReply : Type 0 where
   pub reply : Reply
   pub left : ℕ
+  pub shortfall : ℕ
 
-abbrev pub leftReply : ℕ → ℕ → LeftReply
-leftReply n left = record { reply = noDetails n; left = cond (eqb n 0) left 0 }
+abbrev pub leftReply : ℕ → ℕ → ℕ → LeftReply
+leftReply n left shortfall = record { reply = noDetails n; left = cond (eqb n 0) left 0; shortfall = cond (eqb n 0) shortfall 0 }
 
 unfoldable pub directionReadRefuses : Book → ℕ → ℕ → ℕ → Bool
 directionReadRefuses b d hour n = cond (eqb n 6) (directionUnknown b d || hourUnknown b hour) false
 
 unfoldable pub readDirection : Book → ℕ → ℕ → LeftReply
-readDirection b d hour = leftReply (firstOf (directionReadRefuses b d hour) order) (leftAt b d hour)
+readDirection b d hour = leftReply (firstOf (directionReadRefuses b d hour) order) (leftAt b d hour) (shortfallAt b d hour)
 
 unfoldable pub profileReadRefuses : Book → ℕ → ℕ → ℕ → Bool
 profileReadRefuses b p hour n = cond (eqb n 6) (profileUnknown b p || hourUnknown b hour) false
 
 unfoldable pub readProfile : Book → ℕ → ℕ → LeftReply
-readProfile b p hour = leftReply (firstOf (profileReadRefuses b p hour) order) (leftAt b (ofProfile p) hour)
+readProfile b p hour = leftReply (firstOf (profileReadRefuses b p hour) order) (leftAt b (ofProfile p) hour) (shortfallAt b (ofProfile p) hour)
 
 -- ---- a right
 

@@ -11,7 +11,7 @@ use Rattle.rules.specs.Basics.{bit, anyAbove}
 use Rattle.rules.specs.Sessions.{sessionThere, firstHour, hoursIn}
 use Rattle.rules.specs.Windows.{latest, bidTiming, nominationTiming, offerTiming, matchingTiming}
 use Rattle.rules.specs.Codes.{isCode}
-use Rattle.rules.specs.Book.{Direction, Right, Book, place, flag, ofProfile, direction, party, right, modelOf, directionLimit, pairLimit, partyLimit, profileLimit, rightLimit}
+use Rattle.rules.specs.Book.{Direction, Right, Book, flag, direction, party, right, modelOf, directionLimit, pairLimit, partyLimit, profileLimit, rightLimit}
 use Rattle.rules.specs.Calls.{Call, AddDirection, AddProfile, AddParty, OfferDirection, OfferProfile, Bid, Nominate, Match}
 use Rattle.rules.specs.Setup.{directionTaken, codeTaken}
 use Rattle.rules.specs.Bids.{Shortage, nothingShort, isShort, shortage, rightTaken}
@@ -21,9 +21,9 @@ use Rattle.rules.specs.declared.Timing.the-variants.{Early, Within, Late
 
 -- ---- the order
 
--- the order in which the conditions are asked: 01's, with 16 in 8's place, just before it (02, S-1)
+-- the order in which the conditions are asked: 01's, with 16 in 8's place, just before it (02, S-1), and without 14 (02, S-2)
 unfoldable pub order : List ℕ
-order = 1 ∷ 2 ∷ 3 ∷ 4 ∷ 5 ∷ 6 ∷ 7 ∷ 16 ∷ 8 ∷ 9 ∷ 10 ∷ 11 ∷ 12 ∷ 13 ∷ 14 ∷ 15 ∷ []
+order = 1 ∷ 2 ∷ 3 ∷ 4 ∷ 5 ∷ 6 ∷ 7 ∷ 16 ∷ 8 ∷ 9 ∷ 10 ∷ 11 ∷ 12 ∷ 13 ∷ 15 ∷ []
 
 -- the numbers before n
 unfoldable pub before : ℕ → List ℕ → List ℕ
@@ -223,18 +223,6 @@ full b (Nominate time sender other r side mw) =
     leb pairLimit (length (b .pairs)) && not (pairTaken r (outOf sender other side) (intoOf sender other side) (b .pairs))
 full b (Match time d session) = false
 
--- ---- 14 below
-
-unfoldable pub below : Book → Call → Bool
-below b (AddDirection o i m) = false
-below b (AddProfile map) = false
-below b (AddParty code access) = false
-below b (OfferDirection time d hour mw) = ltb mw (getD (b .granted) (place d hour) 0)
-below b (OfferProfile time p hour mw) = ltb mw (getD (b .granted) (place (ofProfile p) hour) 0)
-below b (Bid time p d session mw) = false
-below b (Nominate time sender other r side mw) = false
-below b (Match time d session) = false
-
 -- ---- 15 short
 
 unfoldable pub shortageOf : Book → Call → Shortage
@@ -249,7 +237,7 @@ shortageOf b (Match time d session) = nothingShort
 
 -- ---- the table
 
--- condition number n holds; 1 and 2 never apply to these calls
+-- condition number n holds; 1 and 2 never apply to these calls, and 14 no longer occurs
 unfoldable pub refuses : Book → Call → ℕ → Bool
 refuses b c n =
     cond (eqb n 3) (field b c) (
@@ -264,8 +252,7 @@ refuses b c n =
     cond (eqb n 11) (notOwner b c) (
     cond (eqb n 12) (cycle b c) (
     cond (eqb n 13) (full b c) (
-    cond (eqb n 14) (below b c) (
-    cond (eqb n 15) (isShort (shortageOf b c)) false)))))))))))))
+    cond (eqb n 15) (isShort (shortageOf b c)) false))))))))))))
 
 -- the number of the reply: 0, or the first in the order whose condition holds
 abbrev pub number : Book → Call → ℕ

@@ -5,7 +5,7 @@ use Rattle.rules.specs.Calls.{Reply, noDetails}
 use Rattle.rules.specs.declared.CapacityOf.{CapacityOf}
 use Rattle.rules.specs.declared.CapacityOf.the-variants.{Direction, Profile}
 use Rattle.rules.specs.declared.Answer.{Answer}
-use Rattle.rules.specs.declared.Answer.the-variants.{Granted, Record, Day, Field, SetupShut, Clock, Unknown, Taken, TooEarly, TooLate, Hours, Access, Owner, Cycle, Full, Below, Short}
+use Rattle.rules.specs.declared.Answer.the-variants.{Granted, Record, Day, Field, SetupShut, Clock, Unknown, Taken, TooEarly, TooLate, Hours, Access, Owner, Cycle, Full, Short}
 use Rattle.rules.specs.declared.ReplyNumbers.{ReplyNumbers}
 
 -- 0 for the direction, or 1 + the profile's number
@@ -30,7 +30,6 @@ said Access = noDetails 10
 said Owner = noDetails 11
 said Cycle = noDetails 12
 said Full = noDetails 13
-said Below = noDetails 14
 said (Short h l) = record { number = 15; first = h .0; second = capacityNumber l }
 
 -- the three numbers as the program holds them

@@ -44,7 +44,6 @@ pub enum Answer {
     Owner,
     Cycle,
     Full,
-    Below,
     Short(Hour, CapacityOf),
 }
 

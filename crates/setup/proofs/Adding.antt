@@ -11,7 +11,7 @@ use Rattle.rules.specs.Basics.{has}
 use Rattle.rules.specs.Book.{Book, directionLimit, partyLimit, profileLimit}
 use Rattle.rules.specs.Calls.{Call, AddDirection, AddProfile, AddParty}
 use Rattle.rules.specs.Said.{said}
-use Rattle.rules.specs.Refusals.{order, firstOf, refuses, number, clock, unknown, taken, timingOf, wrongHours, noAccess, notOwner, cycle, full, below, shortageOf}
+use Rattle.rules.specs.Refusals.{order, firstOf, refuses, number, clock, unknown, taken, timingOf, wrongHours, noAccess, notOwner, cycle, full, shortageOf}
 use Rattle.rules.specs.Effects.{isTimed, clockAfter, directionsAfter, profilesAfter, partiesAfter, offeredAfter, grantedAfter, rightsAfter, pairsAfter, matchedAfter, effect}
 use Rattle.rules.specs.Details.{detail}
 use Rattle.rules.specs.declared.Answer.{Answer}
@@ -37,7 +37,7 @@ pub record Lefts (b : Book) : Type 0 where
   pub party : (code : List ℕ) (access : ℕ) → Left b (AddParty code access) (3 ∷ 4 ∷ 7 ∷ 13 ∷ [])
 
 pub lefts : (b : Book) → Lefts b
-unfolding firstOf order refuses clock unknown taken timingOf wrongHours noAccess notOwner cycle below shortageOf
+unfolding firstOf order refuses clock unknown taken timingOf wrongHours noAccess notOwner cycle shortageOf
 lefts b =
     record {
       direction = λ o i m. record { number-is = refl };

@@ -10,7 +10,7 @@ use Rattle.rules.specs.Codes.{between, charValue, allChars, weighted, isCode}
 use Rattle.rules.specs.Book.{holds, opened}
 use Rattle.rules.specs.Setup.{directionTaken, codeTaken}
 use Rattle.rules.specs.Bids.{profileShort, shortProfile, shortHour, shortage, share, withBid, withRight, rightNumber}
-use Rattle.rules.specs.Refusals.{order, firstOf, field, setupShut, clock, hourUnknown, unknown, taken, timingOf, hoursLacking, wrongHours, noAccess, notOwner, cycle, full, below, shortageOf, refuses}
+use Rattle.rules.specs.Refusals.{order, firstOf, field, setupShut, clock, hourUnknown, unknown, taken, timingOf, hoursLacking, wrongHours, noAccess, notOwner, cycle, full, shortageOf, refuses}
 use Rattle.rules.specs.Effects.{isTimed, clockAfter, directionsAfter, profilesAfter, partiesAfter, offeredAfter, grantedAfter, rightsAfter, pairsAfter, matchedAfter, effect}
 use Rattle.rules.specs.Details.{detail, refusal}
 use Rattle.rules.specs.Run.{applied, run}
@@ -24,7 +24,7 @@ use Rattle.stream.specs.Running.{ExamplePrinted, ExampleWritten}
 use Rattle.stream.proofs.Running.{writes-all}
 
 pub example-printed : ExamplePrinted
-unfolding bit mapOf has anyAbove same mwAt sessionThere firstHour hoursIn sessionOf timing gateHour opens bidsClose held bidTiming offerTiming between charValue allChars weighted isCode holds opened directionTaken codeTaken profileShort shortProfile shortHour shortage share withBid withRight rightNumber order firstOf field setupShut clock hourUnknown unknown taken timingOf hoursLacking wrongHours noAccess notOwner cycle full below shortageOf refuses isTimed clockAfter directionsAfter profilesAfter partiesAfter offeredAfter grantedAfter rightsAfter pairsAfter matchedAfter effect detail refusal applied run dayRefused openingRefuses dayHours dayWeekday opening widths callOf kinds stands standing numberAt fieldsAt endAt fieldsIn endIn readerRefuses reading digitsOf lineOf startCalls startBook callMade atFront answerable linesIn
+unfolding bit mapOf has anyAbove same mwAt sessionThere firstHour hoursIn sessionOf timing gateHour opens bidsClose held bidTiming offerTiming between charValue allChars weighted isCode holds opened directionTaken codeTaken profileShort shortProfile shortHour shortage share withBid withRight rightNumber order firstOf field setupShut clock hourUnknown unknown taken timingOf hoursLacking wrongHours noAccess notOwner cycle full shortageOf refuses isTimed clockAfter directionsAfter profilesAfter partiesAfter offeredAfter grantedAfter rightsAfter pairsAfter matchedAfter effect detail refusal applied run dayRefused openingRefuses dayHours dayWeekday opening widths callOf kinds stands standing numberAt fieldsAt endAt fieldsIn endIn readerRefuses reading digitsOf lineOf startCalls startBook callMade atFront answerable linesIn
 example-printed = refl
 
 pub example-written : ExampleWritten

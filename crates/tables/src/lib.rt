@@ -2,7 +2,7 @@
 ghost use mathlib.Core.Path.{_≡_};
 ghost use Prim.Native.Nat.{_+_, _<_};
 ghost use lib.ListN.{getD};
-ghost use Rattle.rules.specs.Book.{place, leftAt, directionLimit, rightLimit};
+ghost use Rattle.rules.specs.Book.{place, leftAt, shortfallAt, directionLimit, rightLimit};
 ghost use Rattle.rules.specs.Refusals.{isMatched};
 ghost use Rattle.cells.specs.Layout.{OFFERED, GRANTED};
 ghost use Rattle.cells.specs.View.{InHour, bookOf, directionAt, rightAt};
@@ -77,6 +77,16 @@ pub fn left_at(book: &Book, row: u8, hour: Hour) -> u32
     let offered = offered_at(book, row, hour);
     let granted = granted_at(book, row, hour);
     rules::less(offered, granted)
+}
+
+// By how much the granted MW of a row exceed its offer in an hour.
+pub fn shortfall_at(book: &Book, row: u8, hour: Hour) -> u32
+    requires { ⌜ InHour row (hour .0) ⌝ }
+    ensures { λ r. ⌜ r ≡ shortfallAt (bookOf (now (book .entry))) row (hour .0) ⌝ }
+{
+    let offered = offered_at(book, row, hour);
+    let granted = granted_at(book, row, hour);
+    rules::less(granted, offered)
 }
 
 // The session of a direction was matched.

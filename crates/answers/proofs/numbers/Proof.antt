@@ -50,18 +50,13 @@ returns-15 : tie.Need-returns-15
 returns-15 c = rw (c .before .enum-told14 .given .1, c .refused14 .ensures)
 
 returns-16 : tie.Need-returns-16
-returns-16 c = rw (c .before .enum-told15 .given .1, c .refused15 .ensures)
-
-returns-17 : tie.Need-returns-17
-returns-17 c = rw (c .before .before .before .answer2 .given .1, c .capacity-number .ensures)
+returns-16 c = rw (c .before .before .before .answer2 .given .1, c .capacity-number .ensures)
 
 pub numbers-spec : {M : Type 1} → statement M
 numbers-spec =
     tie.close
     (tie.spec
     (λ c. search needs)
-    (λ c. search needs)
-    (λ c κs. search needs)
     (λ c. search needs)
     (λ c κs. search needs)
     (λ c. search needs)
@@ -108,5 +103,4 @@ numbers-spec =
     returns-13
     returns-14
     returns-15
-    returns-16
-    returns-17)
+    returns-16)

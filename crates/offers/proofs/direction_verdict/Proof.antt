@@ -2,15 +2,15 @@
 -- Assumes nothing.
 use borrow.Author.Needs.{needs}
 use Prim.Native.Nat.{ℕ}
-use mathlib.Core.Path.{_≡_, refl, subst}
+use mathlib.Core.Path.{_≡_, refl}
 use mathlib.Core.List.{List, [], _∷_}
 use denote.Ref.{now}
 use Rattle.rules.specs.Calls.{OfferDirection}
-use Rattle.rules.specs.Refusals.{refuses, field, clock, unknown, timingOf, below}
+use Rattle.rules.specs.Refusals.{refuses, field, clock, unknown, timingOf}
 use Rattle.rules.specs.Details.{refusal}
 use Rattle.cells.specs.View.{bookOf}
-use Rattle.rules.specs.declared.Answer.the-variants.{Field, Clock, Unknown, Below}
-use Rattle.answers.proofs.Laws.{Left, pass, refuse, ByWindow, by-window, none-left, told}
+use Rattle.rules.specs.declared.Answer.the-variants.{Field, Clock, Unknown}
+use Rattle.answers.proofs.Laws.{Left, pass, refuse, window-last, told}
 use Rattle.cells.proofs.Views.{Known, known, model-at, slot}
 use Rattle.offers.proofs.Offers.{direction-left}
 use Rattle.offers.proofs.direction_verdict.Statement.{statement}
@@ -20,18 +20,18 @@ use Rattle.offers.proofs.direction_verdict.Tie as tie
 abbrev To : tie.Start → List ℕ → Type 0
 To s ns = Left (bookOf (now (s .args .book))) (OfferDirection (s .args .time) (s .args .direction) (s .args .hour .0) (s .args .mw)) ns
 
-start : (c : tie.Start) → To c (3 ∷ 5 ∷ 6 ∷ 16 ∷ 8 ∷ 14 ∷ [])
+start : (c : tie.Start) → To c (3 ∷ 5 ∷ 6 ∷ 16 ∷ 8 ∷ [])
 start c = direction-left _ _ _ _ _
 
-after1 : (c : tie.Else1) → To (c .before .before) (5 ∷ 6 ∷ 16 ∷ 8 ∷ 14 ∷ [])
+after1 : (c : tie.Else1) → To (c .before .before) (5 ∷ 6 ∷ 16 ∷ 8 ∷ [])
 unfolding refuses field
 after1 c = pass (start (c .before .before)) (told (c .before .offer-field .ensures) (c .if1 .left))
 
-after2 : (c : tie.Else2) → To (c .before .before .before .before) (6 ∷ 16 ∷ 8 ∷ 14 ∷ [])
+after2 : (c : tie.Else2) → To (c .before .before .before .before) (6 ∷ 16 ∷ 8 ∷ [])
 unfolding refuses clock
 after2 c = pass (after1 (c .before .before)) (told (c .before .before-clock .ensures) (c .if2 .left))
 
-after3 : (c : tie.Else3) → To (c .before .before .before .before .before .before) (16 ∷ 8 ∷ 14 ∷ [])
+after3 : (c : tie.Else3) → To (c .before .before .before .before .before .before) (16 ∷ 8 ∷ [])
 unfolding refuses unknown
 after3 c = pass (after2 (c .before .before)) (told (c .before .direction-hour-unknown .ensures) (c .if3 .left))
 
@@ -43,12 +43,6 @@ knows c = known _ _ _ (told (c .before .direction-hour-unknown .ensures) (c .if3
 timing-is : (c : tie.After-timing) → let a = c .before .before .before .before .before .before .before .before .args in c .timing .result ≡ timingOf (bookOf (now (a .book))) (OfferDirection (a .time) (a .direction) (a .hour .0) (a .mw))
 unfolding timingOf
 timing-is c = rw (model-at _ _ (knows (c .before .before) .direction), ← c .before .model-of .ensures) (c .timing .ensures)
-
-found : (c : tie.After-window-verdict) → let a = c .before .before .before .before .before .before .before .before .before .args in ByWindow (bookOf (now (a .book))) (OfferDirection (a .time) (a .direction) (a .hour .0) (a .mw)) (14 ∷ []) (c .window-verdict .result)
-found c = rw (c .window-verdict .ensures) (by-window (after3 (c .before .before .before)) (timing-is (c .before)))
-
-after4 : (c : tie.After-enum-told) → To (c .before .before .before .before .before .before .before .before .before .before .before) (14 ∷ [])
-after4 c = subst (ByWindow _ _ _) (c .enum-told .given .1) (found (c .before .before))
 
 returns : tie.Need-returns
 unfolding refuses field refusal
@@ -63,15 +57,7 @@ unfolding refuses unknown refusal
 returns-3 c = refuse Unknown (after2 (c .before .before)) (told (c .before .direction-hour-unknown .ensures) (c .if3 .taken)) refl refl
 
 returns-4 : tie.Need-returns-4
-returns-4 c = subst (ByWindow _ _ _) (c .before .answer .given .1) (found (c .before .before .before))
-
-returns-5 : tie.Need-returns-5
-unfolding refuses below refusal
-returns-5 c = refuse Below (after4 (c .before .before)) (told (c .before .offer-below .ensures) (c .if4 .taken)) refl refl
-
-returns-6 : tie.Need-returns-6
-unfolding refuses below
-returns-6 c = none-left (pass (after4 (c .before .before)) (told (c .before .offer-below .ensures) (c .if4 .left)))
+returns-4 c = rw (c .window-verdict .ensures) (window-last (after3 (c .before .before .before)) (timing-is (c .before)))
 
 pub direction-verdict-spec : {M : Type 1} → statement M
 direction-verdict-spec =
@@ -86,9 +72,4 @@ direction-verdict-spec =
     (λ c κs. knows c .row)
     (λ c κs. search needs)
     (λ c κs. search needs)
-    (λ c. search needs)
-    returns-4
-    (λ c. search needs)
-    (λ c κs. slot (knows (c .before .before .before .before .before)))
-    returns-5
-    returns-6)
+    returns-4)

@@ -2,16 +2,15 @@
 -- Assumes nothing.
 use borrow.Author.Needs.{needs}
 use Prim.Native.Nat.{ℕ}
-use mathlib.Core.Path.{_≡_, refl, subst}
+use mathlib.Core.Path.{_≡_, refl}
 use mathlib.Core.List.{List, [], _∷_}
-use native.Mathlib.Omega.{arith}
 use denote.Ref.{now}
 use Rattle.rules.specs.Calls.{OfferProfile}
-use Rattle.rules.specs.Refusals.{refuses, field, clock, unknown, timingOf, below}
+use Rattle.rules.specs.Refusals.{refuses, field, clock, unknown, timingOf}
 use Rattle.rules.specs.Details.{refusal}
 use Rattle.cells.specs.View.{bookOf}
-use Rattle.rules.specs.declared.Answer.the-variants.{Field, Clock, Unknown, Below}
-use Rattle.answers.proofs.Laws.{Left, pass, refuse, ByWindow, by-window, none-left, told}
+use Rattle.rules.specs.declared.Answer.the-variants.{Field, Clock, Unknown}
+use Rattle.answers.proofs.Laws.{Left, pass, refuse, window-last, told}
 use Rattle.cells.proofs.Views.{KnownProfile, known-profile}
 use Rattle.offers.proofs.Offers.{profile-left}
 use Rattle.offers.proofs.profile_verdict.Statement.{statement}
@@ -21,34 +20,24 @@ use Rattle.offers.proofs.profile_verdict.Tie as tie
 abbrev To : tie.Start → List ℕ → Type 0
 To s ns = Left (bookOf (now (s .args .book))) (OfferProfile (s .args .time) (s .args .profile) (s .args .hour .0) (s .args .mw)) ns
 
-start : (c : tie.Start) → To c (3 ∷ 5 ∷ 6 ∷ 16 ∷ 8 ∷ 14 ∷ [])
+start : (c : tie.Start) → To c (3 ∷ 5 ∷ 6 ∷ 16 ∷ 8 ∷ [])
 start c = profile-left _ _ _ _ _
 
-after1 : (c : tie.Else1) → To (c .before .before) (5 ∷ 6 ∷ 16 ∷ 8 ∷ 14 ∷ [])
+after1 : (c : tie.Else1) → To (c .before .before) (5 ∷ 6 ∷ 16 ∷ 8 ∷ [])
 unfolding refuses field
 after1 c = pass (start (c .before .before)) (told (c .before .offer-field .ensures) (c .if1 .left))
 
-after2 : (c : tie.Else2) → To (c .before .before .before .before) (6 ∷ 16 ∷ 8 ∷ 14 ∷ [])
+after2 : (c : tie.Else2) → To (c .before .before .before .before) (6 ∷ 16 ∷ 8 ∷ [])
 unfolding refuses clock
 after2 c = pass (after1 (c .before .before)) (told (c .before .before-clock .ensures) (c .if2 .left))
 
-after3 : (c : tie.Else3) → To (c .before .before .before .before .before .before) (16 ∷ 8 ∷ 14 ∷ [])
+after3 : (c : tie.Else3) → To (c .before .before .before .before .before .before) (16 ∷ 8 ∷ [])
 unfolding refuses unknown
 after3 c = pass (after2 (c .before .before)) (told (c .before .profile-hour-unknown .ensures) (c .if3 .left))
-
--- the profile and the hour are there
-knows : (c : tie.Else3) → let a = c .before .before .before .before .before .before .args in KnownProfile (now (a .book)) (a .profile) (a .hour .0)
-knows c = known-profile _ _ _ (told (c .before .profile-hour-unknown .ensures) (c .if3 .left))
 
 timing-is : (c : tie.After-timing) → let a = c .before .before .before .before .before .before .before .args in c .timing .result ≡ timingOf (bookOf (now (a .book))) (OfferProfile (a .time) (a .profile) (a .hour .0) (a .mw))
 unfolding timingOf
 timing-is c = c .timing .ensures
-
-found : (c : tie.After-window-verdict) → let a = c .before .before .before .before .before .before .before .before .args in ByWindow (bookOf (now (a .book))) (OfferProfile (a .time) (a .profile) (a .hour .0) (a .mw)) (14 ∷ []) (c .window-verdict .result)
-found c = rw (c .window-verdict .ensures) (by-window (after3 (c .before .before)) (timing-is (c .before)))
-
-after4 : (c : tie.After-enum-told) → To (c .before .before .before .before .before .before .before .before .before .before) (14 ∷ [])
-after4 c = subst (ByWindow _ _ _) (c .enum-told .given .1) (found (c .before .before))
 
 returns : tie.Need-returns
 unfolding refuses field refusal
@@ -63,15 +52,7 @@ unfolding refuses unknown refusal
 returns-3 c = refuse Unknown (after2 (c .before .before)) (told (c .before .profile-hour-unknown .ensures) (c .if3 .taken)) refl refl
 
 returns-4 : tie.Need-returns-4
-returns-4 c = subst (ByWindow _ _ _) (c .before .answer .given .1) (found (c .before .before .before))
-
-returns-5 : tie.Need-returns-5
-unfolding refuses below refusal
-returns-5 c = refuse Below (after4 (c .before .before)) (told (c .before .offer-below .ensures) (c .if4 .taken)) refl refl
-
-returns-6 : tie.Need-returns-6
-unfolding refuses below
-returns-6 c = none-left (pass (after4 (c .before .before)) (told (c .before .offer-below .ensures) (c .if4 .left)))
+returns-4 c = rw (c .window-verdict .ensures) (window-last (after3 (c .before .before)) (timing-is (c .before)))
 
 pub profile-verdict-spec : {M : Type 1} → statement M
 profile-verdict-spec =
@@ -85,10 +66,4 @@ profile-verdict-spec =
     returns-3
     (λ c κs. search needs)
     (λ c κs. search needs)
-    (λ c. search needs)
-    returns-4
-    (λ c. search needs)
-    (λ c. let k = knows (c .before .before .before .before) .profile in omega arith)
-    (λ c κs. knows (c .before .before .before .before) .row)
-    returns-5
-    returns-6)
+    returns-4)

@@ -9,7 +9,7 @@ use Rattle.reads.proofs.left_of_profile.Statement.{statement}
 use Rattle.reads.proofs.left_of_profile.Tie as tie
 
 returns : tie.Need-returns
-returns c = record { reply = profile-unknown _ _ _ (told (c .before .profile-hour-unknown .ensures) (c .if1 .taken)) }
+returns c = record { reply = rw (c .left-unknown .ensures) (profile-unknown _ _ _ (told (c .before .before .profile-hour-unknown .ensures) (c .before .if1 .taken))) }
 
 add-left-read : tie.Need-add-left-read
 add-left-read c = let k = known-profile _ _ _ (told (c .before .profile-hour-unknown .ensures) (c .if1 .left)) in record { fits = omega arith }
@@ -23,4 +23,4 @@ returns-2 c = record { reply = rw (c .left-read .ensures) (profile-left-is _ _ _
 pub left-of-profile-spec : {M : Type 1} → statement M
 left-of-profile-spec =
     tie.close
-    (tie.spec (λ c κs. search needs) returns add-left-read left-read-requires returns-2)
+    (tie.spec (λ c κs. search needs) (λ c κs. search needs) returns add-left-read left-read-requires returns-2)
