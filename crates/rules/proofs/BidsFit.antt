@@ -1,6 +1,6 @@
 -- Demand 3, each granted bid: it fits what the calls before it leave, and where it takes MW they give no shortfall.
 -- Assumes nothing.
-use Prim.Native.Nat.{ℕ, _+_, _-_, _≤_, _<_, zero-le}
+use Prim.Native.Nat.{ℕ, _+_, _-_, _≤_, _<_}
 use mathlib.Core.Path.{_≡_, refl, sym, _∙_, subst}
 use mathlib.Core.Bool.{Bool, true, false, cond, true≢false}
 use mathlib.Core.List.{List, [], _∷_, _++_}
@@ -8,7 +8,7 @@ use native.Mathlib.Omega.{arith}
 use lib.Dec.{leb, ltb}
 use lib.ListN.{length, getD, List·getD-eq-default}
 use borrow.Author.Tests.{leb-true, ltb-true, ltb-false}
-use Rattle.rules.specs.Basics.{bit, has, mwAt}
+use Rattle.rules.specs.Basics.{has, mwAt}
 use Rattle.rules.specs.Sessions.{firstHour, hoursIn}
 use Rattle.rules.specs.Book.{Book, holds, leftAt, opened, modelOf}
 use Rattle.rules.specs.Calls.{Call, Bid}
@@ -27,7 +27,7 @@ use Rattle.rules.proofs.Capacity.{balance, hours-opened, directions-ope
 
 -- ---- a granted bid on a book
 
--- what is above 0 by a test passed the test
+-- a choice by a test that is above 0 passed the test
 positive : (t : Bool) (m : ℕ) → 0 < cond t m 0 → (t ≡ true) × (0 < m)
 positive true m h = (refl, h)
 positive false m h = absurd (omega arith)

@@ -11,7 +11,7 @@ use Rattle.rules.specs.Details.{refusal}
 use Rattle.cells.specs.View.{bookOf}
 use Rattle.rules.specs.declared.Answer.the-variants.{Field, Clock, Unknown}
 use Rattle.answers.proofs.Laws.{Left, pass, refuse, window-last, told}
-use Rattle.cells.proofs.Views.{Known, known, model-at, slot}
+use Rattle.cells.proofs.Views.{Known, known, model-at}
 use Rattle.offers.proofs.Offers.{direction-left}
 use Rattle.offers.proofs.direction_verdict.Statement.{statement}
 use Rattle.offers.proofs.direction_verdict.Tie as tie

@@ -11,7 +11,6 @@ use Rattle.rules.specs.Details.{refusal}
 use Rattle.cells.specs.View.{bookOf}
 use Rattle.rules.specs.declared.Answer.the-variants.{Field, Clock, Unknown}
 use Rattle.answers.proofs.Laws.{Left, pass, refuse, window-last, told}
-use Rattle.cells.proofs.Views.{KnownProfile, known-profile}
 use Rattle.offers.proofs.Offers.{profile-left}
 use Rattle.offers.proofs.profile_verdict.Statement.{statement}
 use Rattle.offers.proofs.profile_verdict.Tie as tie
