@@ -99,7 +99,7 @@ fn many_rights() -> Book {
     book
 }
 
-/// Each offer of the last hour is cut to 100 MW, under what is granted of some.
+/// Each offer of the last hour is cut to 100 MW, for some of them under what is granted.
 fn cut_offers(book: &mut Book) {
     for direction in 0..24 {
         book.offer_direction(2300, direction, 24, 100);

@@ -57,7 +57,7 @@ fn offer(book: &mut Book, k: u32) -> Answer {
     offer_row(book, 1000, (k % 32) as u8, hour, 9999)
 }
 
-// Each offer of the last hour is cut to 100 MW, under what is granted of some.
+// Each offer of the last hour is cut to 100 MW, for some rows under what is granted.
 pub fn cut_offers(book: &mut Book) {
     for row in 0..32u8 {
         offer_row(book, 2300, row, Hour(24), 100);

@@ -91,7 +91,7 @@ known b d hour e =
 pub slot : {b : List ℕ} {d hour : ℕ} → Known b d hour → InHour d hour
 slot k = let l = k .row in record { in-table = omega arith; from = k .first; to = k .most }
 
--- capacity left
+-- capacity left, and the shortfall
 pub left-at : (b : List ℕ) (l h : ℕ) → InHour l h → leftAt (bookOf b) l h ≡ cell b (OFFERED + place l h) - cell b (GRANTED + place l h)
 left-at b l h p = rw (offered-place b l h p, granted-place b l h p)
 

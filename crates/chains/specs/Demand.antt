@@ -51,19 +51,13 @@ module _ (n day : ℕ) (first : List ℕ) (cs : List Call) (rs : List Answer) (l
   abbrev pub mwOf : ℕ → ℕ → ℕ
   mwOf row hour = grantedMw (dayHours n day) granted row hour
 
-  -- left and shortfall: the differences between the two, 0 where negative
-  abbrev pub leftOf : ℕ → ℕ → ℕ
-  leftOf row hour = leftMw (dayHours n day) granted row hour
-
-  abbrev pub shortfallOf : ℕ → ℕ → ℕ
-  shortfallOf row hour = shortfallMw (dayHours n day) granted row hour
-
   pub record DayHolds : Type 0 where
-    -- capacity left and shortfall
+    -- left and shortfall: the differences between offer and granted MW, 0 where negative
     pub left-of-direction : (d hour : ℕ) (x : LeftRead) → ReadsDirection last d hour x
-        → saidLeft x ≡ leftBy (length directions) (dayHours n day) d hour (leftOf d hour) (shortfallOf d hour)
+        → saidLeft x ≡ leftBy (length directions) (dayHours n day) d hour (leftMw (dayHours n day) granted d hour) (shortfallMw (dayHours n day) granted d hour)
     pub left-of-profile : (p hour : ℕ) (x : LeftRead) → ReadsProfile last p hour x
-        → saidLeft x ≡ leftBy (length profiles) (dayHours n day) p hour (leftOf (ofProfile p) hour) (shortfallOf (ofProfile p) hour)
+        → saidLeft x
+        ≡ leftBy (length profiles) (dayHours n day) p hour (leftMw (dayHours n day) granted (ofProfile p) hour) (shortfallMw (dayHours n day) granted (ofProfile p) hour)
     -- hence, in each hour of the day, left + granted = offer + shortfall
     pub direction-adds-up : (d hour : ℕ) (x : LeftRead) → ReadsDirection last d hour x → d < length directions → 1 ≤ hour → hour ≤ dayHours n day
         → x .left + mwOf d hour ≡ offerOf d hour + x .shortfall

@@ -44,14 +44,14 @@ pub fn add_party(book: &mut Book, code: [u8; 16], access: u8) -> Answer
 
 // ---- offers
 
-// The MW of a direction in an hour. Granted: what is left there.
+// The MW of a direction in an hour, also fewer than are granted there. Granted: what is left.
 pub fn offer_direction(book: &mut Book, time: u32, direction: u8, hour: Hour, mw: u16) -> Answer
     ensures { λ r. ⌜ Answers (now (book .entry)) (OfferDirection time direction (hour .0) mw) r (now (book .exit)) ⌝ }
 {
     offers::offer_direction(book, time, direction, hour, mw)
 }
 
-// The MW of a profile in an hour. Granted: what is left there.
+// The MW of a profile in an hour, also fewer than are granted there. Granted: what is left.
 pub fn offer_profile(book: &mut Book, time: u32, profile: u8, hour: Hour, mw: u16) -> Answer
     ensures { λ r. ⌜ Answers (now (book .entry)) (OfferProfile time profile (hour .0) mw) r (now (book .exit)) ⌝ }
 {
@@ -99,12 +99,15 @@ pub fn match_session(book: &mut Book, time: u32, direction: u8, session: Session
 }
 
 // ---- reads
+
+// What is left of a direction in an hour, and the shortfall.
 pub fn left_of_direction(book: &Book, direction: u8, hour: Hour) -> LeftRead
     ensures { λ r. ⌜ ReadsDirection (now (book .entry)) direction (hour .0) r ⌝ }
 {
     reads::left_of_direction(book, direction, hour)
 }
 
+// What is left of a profile in an hour, and the shortfall.
 pub fn left_of_profile(book: &Book, profile: u8, hour: Hour) -> LeftRead
     ensures { λ r. ⌜ ReadsProfile (now (book .entry)) profile (hour .0) r ⌝ }
 {

@@ -64,7 +64,7 @@ fn profile_verdict(book: &Book, time: u32, profile: u8, hour: Hour, mw: u16) -> 
 
 // ---- the calls
 
-// The MW of a row in an hour, also fewer than are granted there: what is then left.
+// Stores the MW of a row in an hour, which may be fewer than are granted there, and answers what is then left.
 fn place_offer(book: &mut Book, time: u32, row: u8, hour: Hour, mw: u16) -> u32
     requires { ⌜ InHour row (hour .0) ⌝ }
     ensures { λ r. ⌜ Placed (now (book .entry)) time row (hour .0) mw r (now (book .exit)) ⌝ }

@@ -27,7 +27,7 @@ use Rattle.rules.proofs.Capacity.{balance, hours-opened, directions-ope
 
 -- ---- a granted bid on a book
 
--- a choice by a test that is above 0 passed the test
+-- where `cond t m 0` is above 0, t holds and m is above 0
 positive : (t : Bool) (m : ℕ) → 0 < cond t m 0 → (t ≡ true) × (0 < m)
 positive true m h = (refl, h)
 positive false m h = absurd (omega arith)

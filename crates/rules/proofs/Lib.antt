@@ -9,6 +9,7 @@ pub mod Books
 pub mod Capacity
 pub mod Sessions
 pub mod Timings
+pub mod Cuts
 pub mod RightsFit
 pub mod BidsFit
 pub mod Rights

@@ -103,7 +103,7 @@ module _ (b : Book) (w : Sound b) (time p d session : ℕ) (mw : List ℕ) (g : 
   abbrev grants : List ℕ
   grants = withBid (b .profiles) d first mw 0 (b .granted)
 
-  pub direction-known : d < length (b .directions)
+  direction-known : d < length (b .directions)
   unfolding order has refuses unknown
   direction-known = leb-false (length (b .directions)) d (or-right (leb (length (b .parties)) p) _ (or-left _ _ (fails g 6 tt)))
 

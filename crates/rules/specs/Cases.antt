@@ -154,16 +154,17 @@ sharedProfile =
     ∷ OfferDirection 1000 0 1 100 ∷ OfferDirection 1000 1 1 100 ∷ OfferProfile 1000 0 1 120
     ∷ Bid 1100 0 0 1 (one 80) ∷ Bid 1100 0 1 1 (one 50) ∷ Bid 1100 0 1 1 (one 40) ∷ []
 
--- 80 MW are granted in hour 1, and then the offer of 100 is cut to 79, which was refused with 14 before 02, S-2; a bid for 1 MW, and the cut to 0
+-- 80 MW are granted in hour 1, and then the offer of 100 is cut to 79, which 01 refused with 14; a bid for 1 MW
 abbrev cutOffer : List Call
 cutOffer =
     AddDirection 0 4 1 ∷ AddParty ceps 1 ∷ OfferDirection 1000 0 1 100 ∷ Bid 1100 0 0 1 (one 80)
     ∷ OfferDirection 1100 0 1 79 ∷ Bid 1100 0 0 1 (one 1) ∷ []
 
+-- and cut to 0
 abbrev cutToZero : List Call
 cutToZero = cutOffer ++ (OfferDirection 1100 0 1 0 ∷ [])
 
--- and raised again, to 90: of the 10 MW left, 11 are short and 10 are not
+-- and raised again, to 90: of the 10 MW left a bid for 11 is short, and one for 10 is not
 abbrev raisedAgain : List Call
 raisedAgain = cutToZero ++ (OfferDirection 1100 0 1 90 ∷ Bid 1100 0 0 1 (one 11) ∷ Bid 1100 0 0 1 (one 10) ∷ [])
 

@@ -70,18 +70,12 @@ module _ (b : Book) (n : ℕ) (cs : List Call) where
   abbrev pub mwOf : ℕ → ℕ → ℕ
   mwOf row hour = grantedMw n granted row hour
 
-  -- left and shortfall: the differences between the two, 0 where negative
-  abbrev pub leftOf : ℕ → ℕ → ℕ
-  leftOf row hour = leftMw n granted row hour
-
-  abbrev pub shortfallOf : ℕ → ℕ → ℕ
-  shortfallOf row hour = shortfallMw n granted row hour
-
   pub record Holds : Type 0 where
-    -- capacity left and shortfall
-    pub left-of-direction : (d hour : ℕ) → readDirection (run b cs .book) d hour ≡ leftBy (length directions) n d hour (leftOf d hour) (shortfallOf d hour)
+    -- left and shortfall: the differences between offer and granted MW, 0 where negative
+    pub left-of-direction : (d hour : ℕ)
+        → readDirection (run b cs .book) d hour ≡ leftBy (length directions) n d hour (leftMw n granted d hour) (shortfallMw n granted d hour)
     pub left-of-profile : (p hour : ℕ)
-        → readProfile (run b cs .book) p hour ≡ leftBy (length profiles) n p hour (leftOf (ofProfile p) hour) (shortfallOf (ofProfile p) hour)
+        → readProfile (run b cs .book) p hour ≡ leftBy (length profiles) n p hour (leftMw n granted (ofProfile p) hour) (shortfallMw n granted (ofProfile p) hour)
     -- hence, in each hour of the day, left + granted = offer + shortfall
     pub direction-adds-up : (d hour : ℕ) → d < length directions → 1 ≤ hour → hour ≤ n
         → readDirection (run b cs .book) d hour .left + mwOf d hour ≡ offerOf d hour + readDirection (run b cs .book) d hour .shortfall

@@ -20,4 +20,5 @@ pub mod Demand1
 pub mod Demand3
 pub mod Shortages
 pub mod Timings
+pub mod Cuts
 pub mod Cases

@@ -237,7 +237,7 @@ shortageOf b (Match time d session) = nothingShort
 
 -- ---- the table
 
--- condition number n holds; 1 and 2 never apply to these calls, and 14 no longer occurs
+-- condition number n holds; 1 and 2 never apply to these calls, and there is no 14 (02, S-2)
 unfoldable pub refuses : Book → Call → ℕ → Bool
 refuses b c n =
     cond (eqb n 3) (field b c) (
