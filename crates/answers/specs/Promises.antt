@@ -24,10 +24,10 @@ use Rattle.answers.specs.declared.LeftRead.{LeftRead}
 use Rattle.answers.specs.declared.RightRead.{RightRead}
 use Rattle.answers.specs.declared.ConfirmedRead.{ConfirmedRead}
 
--- an opening hands back the book of the rules' opening, whatever the cells held
-pub record Opens (n day : ℕ) (r : Answer) (after : List ℕ) : Type 0 where
-  pub reply : said r ≡ opening n day .reply
-  pub book : bookOf after ≡ opening n day .book
+-- an opening by date hands back the book of the rules' opening, whatever the cells held
+pub record Opens (y m d : ℕ) (r : Answer) (after : List ℕ) : Type 0 where
+  pub reply : said r ≡ opening y m d .reply
+  pub book : bookOf after ≡ opening y m d .book
 
 -- a call of the list of demand 3; refused, it leaves every cell as it was
 pub record Answers (before : List ℕ) (c : Call) (r : Answer) (after : List ℕ) : Type 0 where

@@ -136,7 +136,7 @@ pub fn numbers(answer: Answer) -> ReplyNumbers
             second: 0,
         },
         Answer::Record => refused(1),
-        Answer::Day => refused(2),
+        Answer::Date => refused(17),
         Answer::Field => refused(3),
         Answer::SetupShut => refused(4),
         Answer::Clock => refused(5),

@@ -51,7 +51,7 @@ ready b t p d s mw g =
     let m = k .model-is in
     record {
       known = k;
-      lacks = zeros-from (hoursIn (dayHoursIn b) (directionAt b d .model) s) mw (rw m at (or-left (anyAbove 0 (drop (hoursIn (bookOf b .hours) (modelOf (bookOf b) d) s) mw)) (not (anyAbove 0 mw)) (fails f 9 tt)));
+      lacks = zeros-from (hoursIn (dayHoursIn b) (directionAt b d .model) s) mw (rw m at (or-left (anyAbove 0 (drop (hoursIn (bookOf b .day .hours) (modelOf (bookOf b) d) s) mw)) (not (anyAbove 0 mw)) (fails f 9 tt)));
       enough = rw m at (fails f 15 tt);
     }
 

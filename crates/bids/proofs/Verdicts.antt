@@ -47,7 +47,7 @@ pub record KnownBid (b : List ℕ) (p d s : ℕ) : Type 0 where
   pub direction : d < counted b DIRECTIONS directionLimit
   pub rows : (p < partyLimit) × (d < directionLimit)
   pub model-is : modelOf (bookOf b) d ≡ directionAt b d .model
-  pub is-there : sessionThere (bookOf b .hours) (directionAt b d .model) s ≡ true
+  pub is-there : sessionThere (bookOf b .day .hours) (directionAt b d .model) s ≡ true
 
 pub known-bid : (b : List ℕ) (p d s : ℕ) → (partyUnknown (bookOf b) p || directionUnknown (bookOf b) d || sessionUnknown (bookOf b) d s) ≡ false → KnownBid b p d s
 known-bid b p d s e =
@@ -60,7 +60,7 @@ known-bid b p d s e =
       direction = l;
       rows = (omega arith, omega arith);
       model-is = m;
-      is-there = rw m at (not-false (sessionThere (bookOf b .hours) (modelOf (bookOf b) d) s) (or-right (partyUnknown (bookOf b) p || directionUnknown (bookOf b) d) _ e));
+      is-there = rw m at (not-false (sessionThere (bookOf b .day .hours) (modelOf (bookOf b) d) s) (or-right (partyUnknown (bookOf b) p || directionUnknown (bookOf b) d) _ e));
     }
 
 -- ---- access
@@ -74,12 +74,12 @@ access-is b t p d s mw k = rw (access-at b p (k .party), direction-at b d (k .di
 -- ---- the hours of the session
 
 pub session-known : (b : List ℕ) (p d s model : ℕ) (mw : List ℕ) → KnownBid b p d s → model ≡ directionAt b d .model
-    → (anyAbove 0 (drop (hoursIn (bookOf b .hours) model s) mw) || not (anyAbove 0 mw)) ≡ false → Session-known b model d s mw
+    → (anyAbove 0 (drop (hoursIn (bookOf b .day .hours) model s) mw) || not (anyAbove 0 mw)) ≡ false → Session-known b model d s mw
 session-known b p d s model mw k m e =
     record {
       row = k .rows .1;
       is-there = rw m (k .is-there);
-      lacking = zeros-from (hoursIn (bookOf b .hours) model s) mw (or-left _ _ e);
+      lacking = zeros-from (hoursIn (bookOf b .day .hours) model s) mw (or-left _ _ e);
     }
 
 -- ---- the shortage

@@ -39,12 +39,12 @@ JudgedBid b time p d s mw (No a) = Judged (bookOf b) (Bid time p d s mw) (Refuse
 -- the direction and its session are there, and MW for hours that the session lacks are 0
 pub record Session-known (b : List ℕ) (model d s : ℕ) (mw : List ℕ) : Type 0 where
   pub row : d < directionLimit
-  pub is-there : sessionThere (bookOf b .hours) model s ≡ true
-  pub lacking : (k : ℕ) → hoursIn (bookOf b .hours) model s ≤ k → getD mw k 0 ≡ 0
+  pub is-there : sessionThere (bookOf b .day .hours) model s ≡ true
+  pub lacking : (k : ℕ) → hoursIn (bookOf b .day .hours) model s ≤ k → getD mw k 0 ≡ 0
 
 -- it finds what the rules' search finds
 pub record Searched (b : List ℕ) (model d s : ℕ) (mw : List ℕ) (r : Search) : Type 0 where
-  pub found-is : found r ≡ shortage (bookOf b) d (firstHour (bookOf b .hours) model s) mw
+  pub found-is : found r ≡ shortage (bookOf b) d (firstHour (bookOf b .day .hours) model s) mw
 
 -- ---- the granted bid
 

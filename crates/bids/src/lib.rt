@@ -53,7 +53,7 @@ fn bid_unknown(book: &Book, party: u8, direction: u8, session: Session) -> bool
 
 // Where the time stands to the session's bids.
 fn timing(book: &Book, model: u32, session: Session, time: u32) -> Timing
-    ensures { λ r. ⌜ r ≡ bidTiming (bookOf (now (book .entry)) .hours) (bookOf (now (book .entry)) .weekday) model (session .0) time ⌝ }
+    ensures { λ r. ⌜ r ≡ bidTiming (bookOf (now (book .entry)) .day .hours) (bookOf (now (book .entry)) .day .weekday) model (session .0) time ⌝ }
 {
     let hours = cells::hours(book);
     let weekday = cells::weekday(book);
@@ -62,7 +62,7 @@ fn timing(book: &Book, model: u32, session: Session, time: u32) -> Timing
 
 // MW for an hour that the session lacks, or none at all.
 fn wrong_hours(book: &Book, model: u32, session: Session, mw: [u16; 5]) -> bool
-    ensures { λ r. ⌜ r ≡ (anyAbove 0 (drop (hoursIn (bookOf (now (book .entry)) .hours) model (session .0)) mw) || not (anyAbove 0 mw)) ⌝ }
+    ensures { λ r. ⌜ r ≡ (anyAbove 0 (drop (hoursIn (bookOf (now (book .entry)) .day .hours) model (session .0)) mw) || not (anyAbove 0 mw)) ⌝ }
 {
     let hours = cells::hours(book);
     let count = day::hours_in(hours, model, session);

@@ -10,8 +10,8 @@ use lib.Dec.{lit≤, lit<}
 use Rattle.rules.specs.Book.{directionLimit, pairLimit, partyLimit, profileLimit, rightLimit}
 use Rattle.cells.specs.Updates.{withDirections, withProfiles, withParties, withOffered, withGranted, withRights, withPairs, withMatched}
 use Rattle.cells.specs.Loops.{rows}
-use Rattle.cells.specs.Layout.{CELLS, DIRECTIONS, PROFILES, PARTIES, OFFERED, GRANTED, MATCHED, RIGHTS, PAIRS}
-use Rattle.cells.specs.View.{cell, cellFrom, part, counted, dayHoursIn, weekdayIn, startedIn, clockIn, directionAt, directionsIn, profilesIn, partyAt, partiesIn, offeredIn, grantedIn, matchedIn, rightAt, rightsIn, pairAt, pairsIn, bookOf}
+use Rattle.cells.specs.Layout.{CELLS, YEAR, MONTH, DAY, HOURS, WEEKDAY, CLOCK, STARTED, DIRECTIONS, PROFILES, PARTIES, OFFERED, GRANTED, MATCHED, RIGHTS, PAIRS}
+use Rattle.cells.specs.View.{cell, cellFrom, part, counted, dateIn, dayHoursIn, weekdayIn, startedIn, clockIn, directionAt, directionsIn, profilesIn, partyAt, partiesIn, offeredIn, grantedIn, matchedIn, rightAt, rightsIn, pairAt, pairsIn, bookOf}
 use Rattle.cells.proofs.Rows.{rows-same}
 
 -- the cells from lo on and before hi are the same
@@ -43,18 +43,22 @@ module _ (b b′ : List ℕ) where
       → rows (f b′) (counted b′ at limit) 0 ≡ rows (f b) (counted b at limit) 0
   rows-agree f at limit e h = rw e (rows-same (f b′) (f b) (min (cell b at) limit) 0 (λ i l u. h i (omega arith)))
 
-  hours-agree : Agree 0 1 b b′ → dayHoursIn b′ ≡ dayHoursIn b
+  date-agree : Agree YEAR HOURS b b′ → dateIn b′ ≡ dateIn b
+  unfolding dateIn
+  date-agree h = rw (h YEAR (lit≤ tt) (lit< tt), h MONTH (lit≤ tt) (lit< tt), h DAY (lit≤ tt) (lit< tt))
+
+  hours-agree : Agree HOURS WEEKDAY b b′ → dayHoursIn b′ ≡ dayHoursIn b
   unfolding dayHoursIn
-  hours-agree h = rw (h 0 (lit≤ tt) (lit< tt))
+  hours-agree h = rw (h HOURS (lit≤ tt) (lit< tt))
 
-  weekday-agree : Agree 1 2 b b′ → weekdayIn b′ ≡ weekdayIn b
-  weekday-agree h = h 1 (lit≤ tt) (lit< tt)
+  weekday-agree : Agree WEEKDAY CLOCK b b′ → weekdayIn b′ ≡ weekdayIn b
+  weekday-agree h = h WEEKDAY (lit≤ tt) (lit< tt)
 
-  clock-agree : Agree 2 3 b b′ → clockIn b′ ≡ clockIn b
-  clock-agree h = h 2 (lit≤ tt) (lit< tt)
+  clock-agree : Agree CLOCK STARTED b b′ → clockIn b′ ≡ clockIn b
+  clock-agree h = h CLOCK (lit≤ tt) (lit< tt)
 
-  started-agree : Agree 3 4 b b′ → startedIn b′ ≡ startedIn b
-  started-agree h = rw (h 3 (lit≤ tt) (lit< tt))
+  started-agree : Agree STARTED DIRECTIONS b b′ → startedIn b′ ≡ startedIn b
+  started-agree h = rw (h STARTED (lit≤ tt) (lit< tt))
 
   direction-agree : Agree DIRECTIONS PROFILES b b′ → (i : ℕ) → i < directionLimit → directionAt b′ i ≡ directionAt b i
   direction-agree h i l = rw (h (DIRECTIONS + 1 + i * 3) (omega arith) (omega arith), h (DIRECTIONS + 2 + i * 3) (omega arith) (omega arith), h (DIRECTIONS + 3 + i * 3) (omega arith) (omega arith))
@@ -111,44 +115,44 @@ module _ (b b′ : List ℕ) where
   pub only-directions : Within DIRECTIONS PROFILES b b′ → bookOf b′ ≡ withDirections (bookOf b) (directionsIn b′)
   unfolding bookOf
   only-directions w =
-      rw (hours-agree (under w (lit≤ tt)), weekday-agree (under w (lit≤ tt)), started-agree (under w (lit≤ tt)), clock-agree (under w (lit≤ tt)), profiles-agree (over w (lit≤ tt)), parties-agree (over w (lit≤ tt)), offered-agree (over w (lit≤ tt)), granted-agree (over w (lit≤ tt)), rights-agree (over w (lit≤ tt)), pairs-agree (over w (lit≤ tt)), matched-agree (over w (lit≤ tt)))
+      rw (date-agree (under w (lit≤ tt)), hours-agree (under w (lit≤ tt)), weekday-agree (under w (lit≤ tt)), started-agree (under w (lit≤ tt)), clock-agree (under w (lit≤ tt)), profiles-agree (over w (lit≤ tt)), parties-agree (over w (lit≤ tt)), offered-agree (over w (lit≤ tt)), granted-agree (over w (lit≤ tt)), rights-agree (over w (lit≤ tt)), pairs-agree (over w (lit≤ tt)), matched-agree (over w (lit≤ tt)))
 
   pub only-profiles : Within PROFILES PARTIES b b′ → bookOf b′ ≡ withProfiles (bookOf b) (profilesIn b′)
   unfolding bookOf
   only-profiles w =
-      rw (hours-agree (under w (lit≤ tt)), weekday-agree (under w (lit≤ tt)), started-agree (under w (lit≤ tt)), clock-agree (under w (lit≤ tt)), directions-agree (under w (lit≤ tt)), parties-agree (over w (lit≤ tt)), offered-agree (over w (lit≤ tt)), granted-agree (over w (lit≤ tt)), rights-agree (over w (lit≤ tt)), pairs-agree (over w (lit≤ tt)), matched-agree (over w (lit≤ tt)))
+      rw (date-agree (under w (lit≤ tt)), hours-agree (under w (lit≤ tt)), weekday-agree (under w (lit≤ tt)), started-agree (under w (lit≤ tt)), clock-agree (under w (lit≤ tt)), directions-agree (under w (lit≤ tt)), parties-agree (over w (lit≤ tt)), offered-agree (over w (lit≤ tt)), granted-agree (over w (lit≤ tt)), rights-agree (over w (lit≤ tt)), pairs-agree (over w (lit≤ tt)), matched-agree (over w (lit≤ tt)))
 
   pub only-parties : Within PARTIES OFFERED b b′ → bookOf b′ ≡ withParties (bookOf b) (partiesIn b′)
   unfolding bookOf
   only-parties w =
-      rw (hours-agree (under w (lit≤ tt)), weekday-agree (under w (lit≤ tt)), started-agree (under w (lit≤ tt)), clock-agree (under w (lit≤ tt)), directions-agree (under w (lit≤ tt)), profiles-agree (under w (lit≤ tt)), offered-agree (over w (lit≤ tt)), granted-agree (over w (lit≤ tt)), rights-agree (over w (lit≤ tt)), pairs-agree (over w (lit≤ tt)), matched-agree (over w (lit≤ tt)))
+      rw (date-agree (under w (lit≤ tt)), hours-agree (under w (lit≤ tt)), weekday-agree (under w (lit≤ tt)), started-agree (under w (lit≤ tt)), clock-agree (under w (lit≤ tt)), directions-agree (under w (lit≤ tt)), profiles-agree (under w (lit≤ tt)), offered-agree (over w (lit≤ tt)), granted-agree (over w (lit≤ tt)), rights-agree (over w (lit≤ tt)), pairs-agree (over w (lit≤ tt)), matched-agree (over w (lit≤ tt)))
 
   pub only-offered : Within OFFERED GRANTED b b′ → bookOf b′ ≡ withOffered (bookOf b) (offeredIn b′)
   unfolding bookOf
   only-offered w =
-      rw (hours-agree (under w (lit≤ tt)), weekday-agree (under w (lit≤ tt)), started-agree (under w (lit≤ tt)), clock-agree (under w (lit≤ tt)), directions-agree (under w (lit≤ tt)), profiles-agree (under w (lit≤ tt)), parties-agree (under w (lit≤ tt)), granted-agree (over w (lit≤ tt)), rights-agree (over w (lit≤ tt)), pairs-agree (over w (lit≤ tt)), matched-agree (over w (lit≤ tt)))
+      rw (date-agree (under w (lit≤ tt)), hours-agree (under w (lit≤ tt)), weekday-agree (under w (lit≤ tt)), started-agree (under w (lit≤ tt)), clock-agree (under w (lit≤ tt)), directions-agree (under w (lit≤ tt)), profiles-agree (under w (lit≤ tt)), parties-agree (under w (lit≤ tt)), granted-agree (over w (lit≤ tt)), rights-agree (over w (lit≤ tt)), pairs-agree (over w (lit≤ tt)), matched-agree (over w (lit≤ tt)))
 
   pub only-granted : Within GRANTED MATCHED b b′ → bookOf b′ ≡ withGranted (bookOf b) (grantedIn b′)
   unfolding bookOf
   only-granted w =
-      rw (hours-agree (under w (lit≤ tt)), weekday-agree (under w (lit≤ tt)), started-agree (under w (lit≤ tt)), clock-agree (under w (lit≤ tt)), directions-agree (under w (lit≤ tt)), profiles-agree (under w (lit≤ tt)), parties-agree (under w (lit≤ tt)), offered-agree (under w (lit≤ tt)), rights-agree (over w (lit≤ tt)), pairs-agree (over w (lit≤ tt)), matched-agree (over w (lit≤ tt)))
+      rw (date-agree (under w (lit≤ tt)), hours-agree (under w (lit≤ tt)), weekday-agree (under w (lit≤ tt)), started-agree (under w (lit≤ tt)), clock-agree (under w (lit≤ tt)), directions-agree (under w (lit≤ tt)), profiles-agree (under w (lit≤ tt)), parties-agree (under w (lit≤ tt)), offered-agree (under w (lit≤ tt)), rights-agree (over w (lit≤ tt)), pairs-agree (over w (lit≤ tt)), matched-agree (over w (lit≤ tt)))
 
   pub only-rights : Within RIGHTS PAIRS b b′ → bookOf b′ ≡ withRights (bookOf b) (rightsIn b′)
   unfolding bookOf
   only-rights w =
-      rw (hours-agree (under w (lit≤ tt)), weekday-agree (under w (lit≤ tt)), started-agree (under w (lit≤ tt)), clock-agree (under w (lit≤ tt)), directions-agree (under w (lit≤ tt)), profiles-agree (under w (lit≤ tt)), parties-agree (under w (lit≤ tt)), offered-agree (under w (lit≤ tt)), granted-agree (under w (lit≤ tt)), pairs-agree (over w (lit≤ tt)), matched-agree (under w (lit≤ tt)))
+      rw (date-agree (under w (lit≤ tt)), hours-agree (under w (lit≤ tt)), weekday-agree (under w (lit≤ tt)), started-agree (under w (lit≤ tt)), clock-agree (under w (lit≤ tt)), directions-agree (under w (lit≤ tt)), profiles-agree (under w (lit≤ tt)), parties-agree (under w (lit≤ tt)), offered-agree (under w (lit≤ tt)), granted-agree (under w (lit≤ tt)), pairs-agree (over w (lit≤ tt)), matched-agree (under w (lit≤ tt)))
 
   pub only-pairs : Within PAIRS CELLS b b′ → bookOf b′ ≡ withPairs (bookOf b) (pairsIn b′)
   unfolding bookOf
   only-pairs w =
-      rw (hours-agree (under w (lit≤ tt)), weekday-agree (under w (lit≤ tt)), started-agree (under w (lit≤ tt)), clock-agree (under w (lit≤ tt)), directions-agree (under w (lit≤ tt)), profiles-agree (under w (lit≤ tt)), parties-agree (under w (lit≤ tt)), offered-agree (under w (lit≤ tt)), granted-agree (under w (lit≤ tt)), rights-agree (under w (lit≤ tt)), matched-agree (under w (lit≤ tt)))
+      rw (date-agree (under w (lit≤ tt)), hours-agree (under w (lit≤ tt)), weekday-agree (under w (lit≤ tt)), started-agree (under w (lit≤ tt)), clock-agree (under w (lit≤ tt)), directions-agree (under w (lit≤ tt)), profiles-agree (under w (lit≤ tt)), parties-agree (under w (lit≤ tt)), offered-agree (under w (lit≤ tt)), granted-agree (under w (lit≤ tt)), rights-agree (under w (lit≤ tt)), matched-agree (under w (lit≤ tt)))
 
   pub only-matched : Within MATCHED RIGHTS b b′ → bookOf b′ ≡ withMatched (bookOf b) (matchedIn b′)
   unfolding bookOf
   only-matched w =
-      rw (hours-agree (under w (lit≤ tt)), weekday-agree (under w (lit≤ tt)), started-agree (under w (lit≤ tt)), clock-agree (under w (lit≤ tt)), directions-agree (under w (lit≤ tt)), profiles-agree (under w (lit≤ tt)), parties-agree (under w (lit≤ tt)), offered-agree (under w (lit≤ tt)), granted-agree (under w (lit≤ tt)), rights-agree (over w (lit≤ tt)), pairs-agree (over w (lit≤ tt)))
+      rw (date-agree (under w (lit≤ tt)), hours-agree (under w (lit≤ tt)), weekday-agree (under w (lit≤ tt)), started-agree (under w (lit≤ tt)), clock-agree (under w (lit≤ tt)), directions-agree (under w (lit≤ tt)), profiles-agree (under w (lit≤ tt)), parties-agree (under w (lit≤ tt)), offered-agree (under w (lit≤ tt)), granted-agree (under w (lit≤ tt)), rights-agree (over w (lit≤ tt)), pairs-agree (over w (lit≤ tt)))
 
-  pub only-clock : Within 2 4 b b′ → bookOf b′ ≡ record { hours = bookOf b .hours; weekday = bookOf b .weekday; started = startedIn b′; clock = clockIn b′; directions = bookOf b .directions; profiles = bookOf b .profiles; parties = bookOf b .parties; offered = bookOf b .offered; granted = bookOf b .granted; rights = bookOf b .rights; pairs = bookOf b .pairs; matched = bookOf b .matched }
+  pub only-clock : Within CLOCK DIRECTIONS b b′ → bookOf b′ ≡ record { day = bookOf b .day; started = startedIn b′; clock = clockIn b′; directions = bookOf b .directions; profiles = bookOf b .profiles; parties = bookOf b .parties; offered = bookOf b .offered; granted = bookOf b .granted; rights = bookOf b .rights; pairs = bookOf b .pairs; matched = bookOf b .matched }
   unfolding bookOf
   only-clock w =
-      rw (hours-agree (under w (lit≤ tt)), weekday-agree (under w (lit≤ tt)), directions-agree (over w (lit≤ tt)), profiles-agree (over w (lit≤ tt)), parties-agree (over w (lit≤ tt)), offered-agree (over w (lit≤ tt)), granted-agree (over w (lit≤ tt)), rights-agree (over w (lit≤ tt)), pairs-agree (over w (lit≤ tt)), matched-agree (over w (lit≤ tt)))
+      rw (date-agree (under w (lit≤ tt)), hours-agree (under w (lit≤ tt)), weekday-agree (under w (lit≤ tt)), directions-agree (over w (lit≤ tt)), profiles-agree (over w (lit≤ tt)), parties-agree (over w (lit≤ tt)), offered-agree (over w (lit≤ tt)), granted-agree (over w (lit≤ tt)), rights-agree (over w (lit≤ tt)), pairs-agree (over w (lit≤ tt)), matched-agree (over w (lit≤ tt)))

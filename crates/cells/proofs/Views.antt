@@ -12,7 +12,7 @@ use lib.ListN.{length, getD, List·getD-eq-default}
 use Rattle.rules.specs.Sessions.{sessionThere, hoursIn}
 use Rattle.rules.specs.Book.{Direction, Party, Pair, place, direction, party, right, leftAt, shortfallAt, modelOf, directionLimit, pairLimit, partyLimit, profileLimit, rightLimit}
 use Rattle.rules.specs.Refusals.{directionUnknown, sessionUnknown, hourUnknown}
-use Rattle.cells.specs.Layout.{DIRECTIONS, PROFILES, PARTIES, OFFERED, GRANTED, MATCHED, RIGHTS, PAIRS}
+use Rattle.cells.specs.Layout.{HOURS, DIRECTIONS, PROFILES, PARTIES, OFFERED, GRANTED, MATCHED, RIGHTS, PAIRS}
 use Rattle.cells.specs.View.{InHour, cell, cellFrom, part, counted, dayHoursIn, directionAt, directionsIn, profilesIn, partyAt, partiesIn, offeredIn, grantedIn, matchedIn, rightAt, rightsIn, pairAt, pairsIn, bookOf}
 use Rattle.rules.proofs.Bools.{or-left, or-right}
 use Rattle.cells.proofs.Rows.{rows-length, rows-at}
@@ -47,7 +47,7 @@ granted-place b l h p = granted-at b (place l h) (omega arith)
 -- a day has 23 to 25 hours, whatever its cell holds
 pub hours-within : (b : List ℕ) → (23 ≤ dayHoursIn b) × (dayHoursIn b ≤ 25)
 unfolding dayHoursIn
-hours-within b = go (eqb (cell b 0) 23) (eqb (cell b 0) 25)
+hours-within b = go (eqb (cell b HOURS) 23) (eqb (cell b HOURS) 25)
   where
     go : (t u : Bool) → (23 ≤ cond {A = ℕ} t 23 (cond u 25 24)) × (cond {A = ℕ} t 23 (cond u 25 24) ≤ 25)
     go true u = (lit≤ tt, lit≤ tt)

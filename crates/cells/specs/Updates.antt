@@ -8,8 +8,7 @@ use Rattle.rules.specs.Book.{Direction, Party, Right, Pair, Book}
 abbrev pub withDirections : Book → List Direction → Book
 withDirections b x =
     record {
-      hours = b .hours;
-      weekday = b .weekday;
+      day = b .day;
       started = b .started;
       clock = b .clock;
       directions = x;
@@ -25,8 +24,7 @@ withDirections b x =
 abbrev pub withProfiles : Book → List ℕ → Book
 withProfiles b x =
     record {
-      hours = b .hours;
-      weekday = b .weekday;
+      day = b .day;
       started = b .started;
       clock = b .clock;
       directions = b .directions;
@@ -42,8 +40,7 @@ withProfiles b x =
 abbrev pub withParties : Book → List Party → Book
 withParties b x =
     record {
-      hours = b .hours;
-      weekday = b .weekday;
+      day = b .day;
       started = b .started;
       clock = b .clock;
       directions = b .directions;
@@ -59,8 +56,7 @@ withParties b x =
 abbrev pub withOffered : Book → List ℕ → Book
 withOffered b x =
     record {
-      hours = b .hours;
-      weekday = b .weekday;
+      day = b .day;
       started = b .started;
       clock = b .clock;
       directions = b .directions;
@@ -76,8 +72,7 @@ withOffered b x =
 abbrev pub withGranted : Book → List ℕ → Book
 withGranted b x =
     record {
-      hours = b .hours;
-      weekday = b .weekday;
+      day = b .day;
       started = b .started;
       clock = b .clock;
       directions = b .directions;
@@ -93,8 +88,7 @@ withGranted b x =
 abbrev pub withRights : Book → List Right → Book
 withRights b x =
     record {
-      hours = b .hours;
-      weekday = b .weekday;
+      day = b .day;
       started = b .started;
       clock = b .clock;
       directions = b .directions;
@@ -110,8 +104,7 @@ withRights b x =
 abbrev pub withPairs : Book → List Pair → Book
 withPairs b x =
     record {
-      hours = b .hours;
-      weekday = b .weekday;
+      day = b .day;
       started = b .started;
       clock = b .clock;
       directions = b .directions;
@@ -127,8 +120,7 @@ withPairs b x =
 abbrev pub withMatched : Book → List ℕ → Book
 withMatched b x =
     record {
-      hours = b .hours;
-      weekday = b .weekday;
+      day = b .day;
       started = b .started;
       clock = b .clock;
       directions = b .directions;
@@ -145,8 +137,7 @@ withMatched b x =
 abbrev pub withClock : Book → ℕ → Book
 withClock b x =
     record {
-      hours = b .hours;
-      weekday = b .weekday;
+      day = b .day;
       started = true;
       clock = x;
       directions = b .directions;

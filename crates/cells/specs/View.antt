@@ -1,4 +1,5 @@
--- The book of the rules, read off any cells: a count past its table is read as a full one, and hours other than 23 and 25 as 24.
+-- The book of the rules, read off any cells: a count past its table is read as a full one, hours other than 23 and 25 as 24, and numbers that are no date
+-- as none.
 -- Assumes nothing.
 use Prim.Native.Nat.{ℕ, _+_, _*_, _%_, _^_, _≤_, _<_, min}
 use mathlib.Core.Path.{_≡_}
@@ -6,9 +7,10 @@ use mathlib.Core.Bool.{Bool, cond, not}
 use mathlib.Core.List.{List}
 use lib.Dec.{eqb}
 use lib.ListN.{getD, length}
-use Rattle.rules.specs.Book.{Direction, Party, Right, Pair, Book, place, directionLimit, pairLimit, partyLimit, profileLimit, rightLimit}
+use Rattle.rules.specs.Calendar.{isDate}
+use Rattle.rules.specs.Book.{BookDate, NoDate, On, Day, Direction, Party, Right, Pair, Book, place, directionLimit, pairLimit, partyLimit, profileLimit, rightLimit}
 use Rattle.cells.specs.Loops.{rows}
-use Rattle.cells.specs.Layout.{CELLS, HOURS, WEEKDAY, CLOCK, STARTED, DIRECTIONS, PROFILES, PARTIES, OFFERED, GRANTED, MATCHED, RIGHTS, PAIRS}
+use Rattle.cells.specs.Layout.{CELLS, YEAR, MONTH, DAY, HOURS, WEEKDAY, CLOCK, STARTED, DIRECTIONS, PROFILES, PARTIES, OFFERED, GRANTED, MATCHED, RIGHTS, PAIRS}
 
 -- cell number i, 0 past the last
 abbrev pub cell : List ℕ → ℕ → ℕ
@@ -49,12 +51,19 @@ pub record Cells (b : List ℕ) : Type 0 where
 
 -- ---- what cells hold, whatever they are
 
+-- the date: none where year, month and day are no date
+unfoldable pub dateIn : List ℕ → BookDate
+dateIn b = cond (isDate (cell b YEAR) (cell b MONTH) (cell b DAY)) (On (cell b YEAR) (cell b MONTH) (cell b DAY)) NoDate
+
 -- the count of hours: any number but 23 and 25 is read as 24
 unfoldable pub dayHoursIn : List ℕ → ℕ
 dayHoursIn b = cond (eqb (cell b HOURS) 23) 23 (cond (eqb (cell b HOURS) 25) 25 24)
 
 abbrev pub weekdayIn : List ℕ → ℕ
 weekdayIn b = cell b WEEKDAY
+
+abbrev pub dayIn : List ℕ → Day
+dayIn b = record { date = dateIn b; hours = dayHoursIn b; weekday = weekdayIn b }
 
 -- a timed call was granted: any number but 0
 abbrev pub startedIn : List ℕ → Bool
@@ -123,8 +132,7 @@ pairsIn b = rows (pairAt b) (counted b PAIRS pairLimit) 0
 unfoldable pub bookOf : List ℕ → Book
 bookOf b =
     record {
-      hours = dayHoursIn b;
-      weekday = weekdayIn b;
+      day = dayIn b;
       started = startedIn b;
       clock = clockIn b;
       directions = directionsIn b;

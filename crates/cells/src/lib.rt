@@ -7,44 +7,51 @@ ghost use Rattle.cells.specs.View.{InHour, Places, InRange, Cells, count
 use rules::Hour;
 use rules::Session;
 
+// The date of the day: year, month and day of the month; 0 where it has none.
+pub const YEAR: usize = 0;
+
+pub const MONTH: usize = 1;
+
+pub const DAY: usize = 2;
+
 // The count of hours of the day.
-pub const HOURS: usize = 0;
+pub const HOURS: usize = 3;
 
 // Monday 1 to Sunday 7.
-pub const WEEKDAY: usize = 1;
+pub const WEEKDAY: usize = 4;
 
 // The time of the latest granted timed call.
-pub const CLOCK: usize = 2;
+pub const CLOCK: usize = 5;
 
 // Not 0 after a granted timed call.
-pub const STARTED: usize = 3;
+pub const STARTED: usize = 6;
 
 // A count, and 24 rows of 3: out operator, in operator, model.
-pub const DIRECTIONS: usize = 4;
+pub const DIRECTIONS: usize = 7;
 
 // A count, and 8 maps.
-pub const PROFILES: usize = 77;
+pub const PROFILES: usize = 80;
 
 // A count, and 64 rows of 17: the 16 bytes of the code, access map.
-pub const PARTIES: usize = 86;
+pub const PARTIES: usize = 89;
 
 // The offers: 32 rows of 25 hours, rows 0 to 23 for the directions, 24 to 31 for the profiles.
-pub const OFFERED_MW: usize = 1175;
+pub const OFFERED_MW: usize = 1178;
 
 // The granted MW, in rows as those of the offers.
-pub const GRANTED_MW: usize = 1975;
+pub const GRANTED_MW: usize = 1978;
 
 // The matched sessions: 24 rows of 25 sessions, 1 where the session of the direction was matched.
-pub const MATCHED_SESSIONS: usize = 2775;
+pub const MATCHED_SESSIONS: usize = 2778;
 
 // A count, and 512 rows of 8: holder, direction, session, five MW.
-pub const RIGHTS: usize = 3375;
+pub const RIGHTS: usize = 3378;
 
 // A count, and 512 rows of 13: right, out party, in party, five MW of the out side, five of the in side.
-pub const PAIRS: usize = 7472;
+pub const PAIRS: usize = 7475;
 
 // How many cells a book has.
-pub const CELLS: usize = 14129;
+pub const CELLS: usize = 14132;
 
 pub type Book = [u32; CELLS];
 

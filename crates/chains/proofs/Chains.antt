@@ -36,8 +36,8 @@ follows (next {cs = cs} a rest) =
       book = ap (λ (x : Book). run x cs .book) (sym (a .book)) ∙ ih .book;
     }
 
-follows-opened : {n day : ℕ} {r : Answer} {first last : List ℕ} {cs : List Call} {rs : List Answer}
-    → Opens n day r first → Chain first cs rs last → Follows (opening n day .book) cs rs last
+follows-opened : {y m d : ℕ} {r : Answer} {first last : List ℕ} {cs : List Call} {rs : List Answer}
+    → Opens y m d r first → Chain first cs rs last → Follows (opening y m d .book) cs rs last
 follows-opened o k = rw (← o .book) (follows k)
 
 -- what the read of confirmed MW answers
@@ -52,11 +52,12 @@ sum-read last k r reads p (x ∷ ks) = rw (mw-read (p x), sum-read last k r read
 
 -- demand 3 for the program
 pub program-demand3 : ProgramDemand3
-program-demand3 n day r first last cs rs o k =
+program-demand3 year month date r first last cs rs o k =
     let f = follows-opened o k in
-    let d = demand3 n day cs in
+    let d = demand3 year month date cs in
     let w = rw (f .replies, f .book) at (d .without-refused) in
     record {
+      the-day = rw (f .book) at (d .the-day);
       left-of-direction = λ e hour x p. p .reply ∙ rw (f .replies, f .book) at (d .left-of-direction e hour);
       left-of-profile = λ e hour x p. p .reply ∙ rw (f .replies, f .book) at (d .left-of-profile e hour);
       direction-adds-up = λ e hour x p l m q. rw (← p .reply) at (rw (f .replies, f .book) at (d .direction-adds-up e hour (rw (f .replies) l) m q));

@@ -8,10 +8,10 @@ use mathlib.Core.List.{List, [], _∷_, _++_, map}
 use lib.Dec.{eqb}
 use lib.ListN.{length, getD}
 use Rattle.rules.specs.Basics.{noMw}
-use Rattle.rules.specs.Book.{Direction, Right, ofProfile, right}
+use Rattle.rules.specs.Book.{Day, Direction, Right, ofProfile, right}
 use Rattle.rules.specs.Calls.{Call, Bid}
 use Rattle.rules.specs.Said.{said}
-use Rattle.rules.specs.Opening.{dayHours}
+use Rattle.rules.specs.Opening.{openedDay}
 use Rattle.rules.specs.History.{Key, grantedCalls, grants, directionsOf, profilesOf, lastOffer, grantedMw, leftMw, shortfallMw, rightsFrom, rightSum, pairsFrom, lastSide, confirmedBy}
 use Rattle.rules.specs.Demand3.{leftBy, rightReply, BidFits}
 use Rattle.rules.specs.declared.Answer.{Answer}
@@ -28,7 +28,11 @@ confirmedSum reads k r [] = 0
 confirmedSum reads k r (x ∷ xs) = cond (eqb (x .right) r) (getD (reads x .mw) k 0) 0 + confirmedSum reads k r xs
 
 -- over the opening's day, the cells that it left, the calls with their answers, and the cells that the last call left
-module _ (n day : ℕ) (first : List ℕ) (cs : List Call) (rs : List Answer) (last : List ℕ) where
+module _ (day : Day) (first : List ℕ) (cs : List Call) (rs : List Answer) (last : List ℕ) where
+  -- the count of hours
+  abbrev n : ℕ
+  n = day .hours
+
   -- the calls that were granted
   abbrev pub granted : List Call
   granted = grantedCalls cs (map said rs)
@@ -49,28 +53,30 @@ module _ (n day : ℕ) (first : List ℕ) (cs : List Call) (rs : List Answer) (l
   offerOf row hour = lastOffer row hour 0 granted
 
   abbrev pub mwOf : ℕ → ℕ → ℕ
-  mwOf row hour = grantedMw (dayHours n day) granted row hour
+  mwOf row hour = grantedMw n granted row hour
 
   pub record DayHolds : Type 0 where
+    -- the book keeps its day, with its date
+    pub the-day : bookOf last .day ≡ day
     -- left and shortfall: the differences between offer and granted MW, 0 where negative
     pub left-of-direction : (d hour : ℕ) (x : LeftRead) → ReadsDirection last d hour x
-        → saidLeft x ≡ leftBy (length directions) (dayHours n day) d hour (leftMw (dayHours n day) granted d hour) (shortfallMw (dayHours n day) granted d hour)
+        → saidLeft x ≡ leftBy (length directions) n d hour (leftMw n granted d hour) (shortfallMw n granted d hour)
     pub left-of-profile : (p hour : ℕ) (x : LeftRead) → ReadsProfile last p hour x
         → saidLeft x
-        ≡ leftBy (length profiles) (dayHours n day) p hour (leftMw (dayHours n day) granted (ofProfile p) hour) (shortfallMw (dayHours n day) granted (ofProfile p) hour)
+        ≡ leftBy (length profiles) n p hour (leftMw n granted (ofProfile p) hour) (shortfallMw n granted (ofProfile p) hour)
     -- hence, in each hour of the day, left + granted = offer + shortfall
-    pub direction-adds-up : (d hour : ℕ) (x : LeftRead) → ReadsDirection last d hour x → d < length directions → 1 ≤ hour → hour ≤ dayHours n day
+    pub direction-adds-up : (d hour : ℕ) (x : LeftRead) → ReadsDirection last d hour x → d < length directions → 1 ≤ hour → hour ≤ n
         → x .left + mwOf d hour ≡ offerOf d hour + x .shortfall
-    pub profile-adds-up : (p hour : ℕ) (x : LeftRead) → ReadsProfile last p hour x → p < length profiles → 1 ≤ hour → hour ≤ dayHours n day
+    pub profile-adds-up : (p hour : ℕ) (x : LeftRead) → ReadsProfile last p hour x → p < length profiles → 1 ≤ hour → hour ≤ n
         → x .left + mwOf (ofProfile p) hour ≡ offerOf (ofProfile p) hour + x .shortfall
     -- each bid, at whatever place of the chain it was granted, fits there; so granted MW are never above 9,999, the most that can be offered
     pub bids-fit : (earlier later : List Call) (time p d session : ℕ) (mw : List ℕ) → granted ≡ earlier ++ (Bid time p d session mw ∷ later)
-        → BidFits (dayHours n day) earlier (Bid time p d session mw)
-    pub direction-within : (d hour : ℕ) → d < length directions → 1 ≤ hour → hour ≤ dayHours n day → mwOf d hour ≤ 9999
-    pub profile-within : (p hour : ℕ) → p < length profiles → 1 ≤ hour → hour ≤ dayHours n day → mwOf (ofProfile p) hour ≤ 9999
+        → BidFits n earlier (Bid time p d session mw)
+    pub direction-within : (d hour : ℕ) → d < length directions → 1 ≤ hour → hour ≤ n → mwOf d hour ≤ 9999
+    pub profile-within : (p hour : ℕ) → p < length profiles → 1 ≤ hour → hour ≤ n → mwOf (ofProfile p) hour ≤ 9999
     -- the rights, and their sums
     pub the-rights : (r : ℕ) (x : RightRead) → ReadsRight last r x → saidRight x ≡ rightReply rights r
-    pub the-sums : (d hour : ℕ) → d < length directions → rightSum (dayHours n day) directions d hour rights ≡ mwOf d hour
+    pub the-sums : (d hour : ℕ) → d < length directions → rightSum n directions d hour rights ≡ mwOf d hour
     -- confirmed MW are those of the matching, under a right together at most the right, and of a pair at most either side
     pub the-confirmed : (r o i : ℕ) (x : ConfirmedRead) → ReadsConfirmed last r o i x → saidConfirmed x ≡ confirmedBy rights granted r o i
     pub within-right : (r k : ℕ) (reads : Key → ConfirmedRead) → ((x : Key) → ReadsConfirmed last (x .right) (x .out) (x .into) (reads x))
@@ -83,5 +89,5 @@ module _ (n day : ℕ) (first : List ℕ) (cs : List Call) (rs : List Answer) (l
 
 -- for every opening, granted or refused, and every chain of calls on the cells that it left
 abbrev pub ProgramDemand3 : Type 0
-ProgramDemand3 = (n day : ℕ) (r : Answer) (first last : List ℕ) (cs : List Call) (rs : List Answer)
-    → Opens n day r first → Chain first cs rs last → DayHolds n day first cs rs last
+ProgramDemand3 = (y m d : ℕ) (r : Answer) (first last : List ℕ) (cs : List Call) (rs : List Answer)
+    → Opens y m d r first → Chain first cs rs last → DayHolds (openedDay y m d) first cs rs last

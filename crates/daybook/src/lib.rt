@@ -14,11 +14,11 @@ use rules::Session;
 
 // ---- opening and set-up
 
-// An empty book of a day with 23, 24 or 25 hours and a weekday, Monday 1 to Sunday 7. Refused, it is that of a Monday of 24 hours.
-pub fn open_day(book: &mut Book, hours: u8, weekday: u8) -> Answer
-    ensures { λ r. ⌜ Opens hours weekday r (now (book .exit)) ⌝ }
+// An empty book of the day with this date. Refused, it is that of a Monday of 24 hours, without a date.
+pub fn open_day(book: &mut Book, year: u16, month: u8, day: u8) -> Answer
+    ensures { λ r. ⌜ Opens year month day r (now (book .exit)) ⌝ }
 {
-    opening::open_day(book, hours, weekday)
+    opening::open_day(book, year, month, day)
 }
 
 // Out operator, in operator, model 1 or 4. Granted: the direction's number.

@@ -11,7 +11,7 @@ use Rattle.cells.specs.View.{bookOf}
 use Rattle.answers.specs.Promises.{Opens, Answers}
 use Rattle.dayrun_records.specs.Records.{ceps, startCalls, startBook}
 
-pub started : {b1 b2 b3 : List ℕ} {r1 r2 r3 : Answer} → Opens 24 1 r1 b1 → Answers b1 (AddDirection 0 4 1) r2 b2 → Answers b2 (AddParty ceps 1) r3 b3
+pub started : {b1 b2 b3 : List ℕ} {r1 r2 r3 : Answer} → Opens 2015 6 1 r1 b1 → Answers b1 (AddDirection 0 4 1) r2 b2 → Answers b2 (AddParty ceps 1) r3 b3
     → bookOf b3 ≡ startBook
 unfolding startBook startCalls run
 started o d p =

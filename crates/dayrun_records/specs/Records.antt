@@ -29,9 +29,9 @@ ceps = 49 ∷ 48 ∷ 88 ∷ 67 ∷ 90 ∷ 45 ∷ 67 ∷ 69 ∷ 80 ∷ 83 ∷ 45 
 unfoldable pub startCalls : List Call
 startCalls = AddDirection 0 4 1 ∷ AddParty ceps 1 ∷ []
 
--- a Monday of 24 hours with them
+-- 1 June 2015 with them
 unfoldable pub startBook : Book
-startBook = run (opening 24 1 .book) startCalls .book
+startBook = run (opening 2015 6 1 .book) startCalls .book
 
 -- ---- the call of a record
 

@@ -12,11 +12,11 @@ pub struct Taken {
     pub length: usize,
 }
 
-// A Monday of 24 hours with direction 0 and party 0.
+// 1 June 2015, a Monday, with direction 0 and party 0.
 pub fn open_book(book: &mut Book)
     ensures { λ r. ⌜ bookOf (now (book .exit)) ≡ startBook ⌝ }
 {
-    daybook::open_day(book, 24, 1);
+    daybook::open_day(book, 2015, 6, 1);
     daybook::add_direction(book, 0, 4, 1);
     daybook::add_party(book, *b"10XCZ-CEPS-GRIDE", 1);
 }

@@ -38,7 +38,7 @@ fn match_unknown(book: &Book, direction: u8, session: Session) -> bool
 
 // Where the time stands to the session's matching.
 fn timing(book: &Book, model: u32, session: Session, time: u32) -> Timing
-    ensures { λ r. ⌜ r ≡ matchingTiming (bookOf (now (book .entry)) .hours) (bookOf (now (book .entry)) .weekday) model (session .0) time ⌝ }
+    ensures { λ r. ⌜ r ≡ matchingTiming (bookOf (now (book .entry)) .day .hours) (bookOf (now (book .entry)) .day .weekday) model (session .0) time ⌝ }
 {
     let hours = cells::hours(book);
     let weekday = cells::weekday(book);

@@ -57,7 +57,7 @@ module _ (b : List ℕ) (r : ℕ) (l : r < counted b RIGHTS rightLimit) where
   holder-is h e = e ∙ ap (λ (x : Right). x .holder) (sym (right-at b r l))
 
   pub timing-is : (n w m s t : ℕ) (x : Timing) → n ≡ dayHoursIn b → w ≡ weekdayIn b → m ≡ modelOf (bookOf b) (rightDirection (bookOf b) r) → s ≡ rightAt b r .session
-      → x ≡ nominationTiming n w m s t → x ≡ nominationTiming (bookOf b .hours) (bookOf b .weekday) (modelOf (bookOf b) (rightDirection (bookOf b) r)) (rightSession (bookOf b) r) t
+      → x ≡ nominationTiming n w m s t → x ≡ nominationTiming (bookOf b .day .hours) (bookOf b .day .weekday) (modelOf (bookOf b) (rightDirection (bookOf b) r)) (rightSession (bookOf b) r) t
   unfolding bookOf
   timing-is n w m s t x p q u v e = e ∙ rw (p, q, u, session-is s v)
 

@@ -72,7 +72,7 @@ pub fn nomination_unknown(book: &Book, sender: u8, other: u8, right: u16) -> boo
 // Where the time stands to the nominations of the right's session.
 pub fn timing(book: &Book, right: u16, time: u32) -> Timing
     requires { ⌜ right < counted (now book) RIGHTS rightLimit ⌝ }
-    ensures { λ r. ⌜ r ≡ nominationTiming (bookOf (now (book .entry)) .hours) (bookOf (now (book .entry)) .weekday) (modelOf (bookOf (now (book .entry))) (rightDirection (bookOf (now (book .entry))) right)) (rightSession (bookOf (now (book .entry))) right) time ⌝ }
+    ensures { λ r. ⌜ r ≡ nominationTiming (bookOf (now (book .entry)) .day .hours) (bookOf (now (book .entry)) .day .weekday) (modelOf (bookOf (now (book .entry))) (rightDirection (bookOf (now (book .entry))) right)) (rightSession (bookOf (now (book .entry))) right) time ⌝ }
 {
     let hours = cells::hours(book);
     let weekday = cells::weekday(book);

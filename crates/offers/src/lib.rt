@@ -24,7 +24,7 @@ fn offer_field(time: u32, mw: u16) -> bool
 
 // Where the time stands to the offers of the session that holds the hour.
 fn timing(book: &Book, model: u32, hour: Hour, time: u32) -> Timing
-    ensures { λ r. ⌜ r ≡ offerTiming (bookOf (now (book .entry)) .hours) (bookOf (now (book .entry)) .weekday) model (hour .0) time ⌝ }
+    ensures { λ r. ⌜ r ≡ offerTiming (bookOf (now (book .entry)) .day .hours) (bookOf (now (book .entry)) .day .weekday) model (hour .0) time ⌝ }
 {
     let hours = cells::hours(book);
     let weekday = cells::weekday(book);

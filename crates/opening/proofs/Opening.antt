@@ -1,43 +1,38 @@
--- An opening's promise from its test.
+-- An opening's promise from what the calendar says of its date.
 -- Assumes nothing.
-use Prim.Native.Nat.{ℕ, _≤_}
-use mathlib.Core.Path.{_≡_, refl, sym, ap, _∙_}
-use mathlib.Core.Bool.{Bool, true, false, cond, _||_, _&&_, not}
-use native.Mathlib.Omega.{arith}
-use lib.Dec.{eqb, ltb}
-use borrow.Author.Tests.{ltb-false, eqb-true, eqb-false}
-use Rattle.rules.specs.Book.{opened}
+use Prim.Native.Nat.{ℕ}
+use mathlib.Core.Path.{_≡_, ap, _∙_}
+use mathlib.Core.Bool.{true, false, cond}
+use mathlib.Core.Logic.{_⊎_, inl, inr}
+use Rattle.rules.specs.Calendar.{isDate, weekdayOf, hoursOf}
+use Rattle.rules.specs.Book.{On, opened}
 use Rattle.rules.specs.Refusals.{order, firstOf}
-use Rattle.rules.specs.Opening.{dayRefused, openingRefuses, dayHours, dayWeekday, opening}
-use Rattle.rules.specs.declared.Answer.the-variants.{Granted, Day}
-use Rattle.rules.proofs.Bools.{or-left, or-right}
-use Rattle.stores.specs.Stores.{emptied}
-use Rattle.stores.proofs.Stores.{emptied-book}
+use Rattle.rules.specs.Opening.{openingRefuses, dayOf, undatedMonday, openedDay, opening}
+use Rattle.rules.specs.declared.Answer.the-variants.{Granted, Date}
+use Rattle.rules.proofs.Days.{hours-known}
+use Rattle.stores.specs.Stores.{emptied, dated}
+use Rattle.stores.proofs.Stores.{hoursRead, emptied-book, dated-book}
 use Rattle.answers.specs.Promises.{Opens}
 
-hours-stored : (n : ℕ) → 23 ≤ n → n ≤ 25 → cond {A = ℕ} (eqb n 23) 23 (cond (eqb n 25) 25 24) ≡ n
-hours-stored n l u = go (eqb n 23) refl (eqb n 25) refl
-  where
-    go : (t : Bool) → eqb n 23 ≡ t → (v : Bool) → eqb n 25 ≡ v → cond {A = ℕ} t 23 (cond v 25 24) ≡ n
-    go true e v f = sym (eqb-true n 23 e)
-    go false e true f = sym (eqb-true n 25 f)
-    go false e false f =
-        let p = eqb-false n 23 e in
-        let q = eqb-false n 25 f in
-        omega arith
+-- the hours of a date are read as they are stored
+hours-read : {n : ℕ} → (n ≡ 23) ⊎ ((n ≡ 24) ⊎ (n ≡ 25)) → hoursRead n ≡ n
+hours-read (inl e) = rw e
+hours-read (inr (inl e)) = rw e
+hours-read (inr (inr e)) = rw e
 
-pub opens-refused : (n day : ℕ) → dayRefused n day ≡ true → Opens n day Day (emptied 24 1)
-unfolding opening openingRefuses dayHours dayWeekday firstOf order
-opens-refused n day e = record { reply = rw e; book = rw e (emptied-book 24 1) }
+pub opens-refused : (y m d : ℕ) → isDate y m d ≡ false → Opens y m d Date (emptied 24 1)
+unfolding opening openingRefuses openedDay undatedMonday firstOf order
+opens-refused y m d e = record { reply = rw e; book = rw e (emptied-book 24 1) }
 
-pub opens-granted : (n day : ℕ) → dayRefused n day ≡ false → Opens n day (Granted 0) (emptied n day)
-unfolding opening openingRefuses dayHours dayWeekday firstOf order dayRefused
-opens-granted n day e =
-    let d = or-left (ltb n 23 || ltb 25 n || ltb day 1) (ltb 7 day) (or-left (ltb n 23 || ltb 25 n || ltb day 1 || ltb 7 day) (eqb day 2 && not (eqb n 24)) e) in
-    let h = or-left (ltb n 23 || ltb 25 n) (ltb day 1) d in
-    let l = ltb-false n 23 (or-left (ltb n 23) (ltb 25 n) h) in
-    let u = ltb-false 25 n (or-right (ltb n 23) (ltb 25 n) h) in
+-- with the hours and the weekday that the calendar's functions answer for a date
+pub opens-granted : (y m d n weekday : ℕ) → isDate y m d ≡ true → n ≡ cond (isDate y m d) (hoursOf y m d) 0 → weekday ≡ cond (isDate y m d) (weekdayOf y m d) 0
+    → Opens y m d (Granted 0) (dated y m d (emptied n weekday))
+unfolding opening openingRefuses openedDay dayOf firstOf order
+opens-granted y m d n weekday e p q =
     record {
-      reply = rw (e, opening);
-      book = rw (e, opening) (emptied-book n day ∙ ap (λ (x : ℕ). opened x day) (hours-stored n l u));
+      reply = rw e;
+      book =
+          rw (p, q, e)
+          (dated-book y m d (hoursOf y m d) (weekdayOf y m d) e
+          ∙ ap (λ (x : ℕ). opened (record { date = On y m d; hours = x; weekday = weekdayOf y m d })) (hours-read (hours-known y m d)));
     }

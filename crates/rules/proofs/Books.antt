@@ -13,7 +13,7 @@ use borrow.Author.Tests.{eqb-true, eqb-false, leb-false, ltb-true, ltb-false}
 use Rattle.rules.specs.Basics.{has}
 use Rattle.rules.specs.Sessions.{firstHour}
 use Rattle.rules.specs.Windows.{latest}
-use Rattle.rules.specs.Book.{Direction, Party, Right, Pair, Book, direction, place, ofProfile, opened, pairLimit, partyLimit, rightLimit}
+use Rattle.rules.specs.Book.{Day, Direction, Party, Right, Pair, Book, direction, place, ofProfile, opened, pairLimit, partyLimit, rightLimit}
 use Rattle.rules.specs.Calls.{Call, AddDirection, AddProfile, AddParty, OfferDirection, OfferProfile, Bid, Nominate, Match}
 use Rattle.rules.specs.Bids.{isShort, shortage, share, withBid, isRightOf, rightTaken, addedRight, withRight}
 use Rattle.rules.specs.Nominations.{outOf, intoOf, isPairOf, pairTaken, withPair}
@@ -82,7 +82,7 @@ pub record Entries (rs : List Right) (ps : List Pair) : Type 0 where
   pub pairs : length ps ≤ pairLimit
 
 abbrev pub Sound : Book → Type 0
-Sound b = Tables (b .hours) (b .directions) (b .profiles) (b .parties) × Capacities (b .offered) (b .granted) × Entries (b .rights) (b .pairs)
+Sound b = Tables (b .day .hours) (b .directions) (b .profiles) (b .parties) × Capacities (b .offered) (b .granted) × Entries (b .rights) (b .pairs)
 
 pub limits : (b : Book) → Sound b → WithinLimits b
 limits b s =
@@ -108,7 +108,7 @@ there b s row count most hour e c offset o =
     let p = leb-false count row (or-left _ _ e) in
     let h = or-right (leb count row) _ e in
     let f = ltb-false hour 1 (or-left _ _ h) in
-    let t = ltb-false (b .hours) hour (or-right (ltb hour 1) _ h) in
+    let t = ltb-false (b .day .hours) hour (or-right (ltb hour 1) _ h) in
     record { rows = omega arith; from = f; to = omega (arith, s .0 .hours-to) }
 
 pub direction-there : (b : Book) → Sound b → (d hour : ℕ) → (leb (length (b .directions)) d || hourUnknown b hour) ≡ false → There d hour
@@ -292,7 +292,7 @@ sound-step b (OfferProfile time p hour mw) g s =
 sound-step b (Bid time p d session mw) g s =
     let model : ℕ = direction (b .directions) d .model in (
       s .0,
-      bid-capacities b d (firstHour (b .hours) model session) mw (s .1) (fails g 15 tt),
+      bid-capacities b d (firstHour (b .day .hours) model session) mw (s .1) (fails g 15 tt),
       record {
         rights = rw (length-with model p d session mw (b .rights)) (not-above rightLimit (length (b .rights)) _ (fails g 13 tt) (s .2 .rights));
         pairs = s .2 .pairs;
@@ -318,9 +318,9 @@ no-cell zero i = refl
 no-cell (suc n) zero = refl
 no-cell (suc n) (suc i) = no-cell n i
 
-pub sound-opened : (n day : ℕ) → 23 ≤ n → n ≤ 25 → Sound (opened n day)
+pub sound-opened : (day : Day) → 23 ≤ day .hours → day .hours ≤ 25 → Sound (opened day)
 unfolding opened
-sound-opened n day f t = (
+sound-opened day f t = (
   record { hours-from = f; hours-to = t; directions = zero-le; profiles = zero-le; parties = zero-le },
   record {
     offered = length-replicate {A = ℕ} 800 0;

@@ -9,7 +9,7 @@ use native.Mathlib.Omega.{arith}
 use lib.ListN.{getD, getD-replicate}
 use Rattle.rules.specs.Basics.{has}
 use Rattle.rules.specs.Sessions.{firstHour}
-use Rattle.rules.specs.Book.{Direction, Book, direction, leftAt, shortfallAt, place, ofProfile, opened}
+use Rattle.rules.specs.Book.{Day, Direction, Book, direction, leftAt, shortfallAt, place, ofProfile, opened}
 use Rattle.rules.specs.Calls.{Call, AddDirection, AddProfile, AddParty, OfferDirection, OfferProfile, Bid, Nominate, Match}
 use Rattle.rules.specs.Bids.{share}
 use Rattle.rules.specs.Refusals.{order, refuses, unknown}
@@ -41,8 +41,8 @@ module _ (row hour : ℕ) (l : row < 32) (p : 1 ≤ hour) (q : hour ≤ 25) wher
   offered-step b (Match time d session) g s = refl
 
   granted-step : (b : Book) (c : Call) → Sound b
-      → getD (grantedAfter (b .hours) (b .directions) (b .profiles) (b .granted) c) (place row hour) 0
-      ≡ getD (b .granted) (place row hour) 0 + bidMw (b .hours) (b .directions) (b .profiles) row hour c
+      → getD (grantedAfter (b .day .hours) (b .directions) (b .profiles) (b .granted) c) (place row hour) 0
+      ≡ getD (b .granted) (place row hour) 0 + bidMw (b .day .hours) (b .directions) (b .profiles) row hour c
   unfolding grantedAfter bidMw share
   granted-step b (AddDirection o i m) s = sym (add-zero _)
   granted-step b (AddProfile map) s = sym (add-zero _)
@@ -50,7 +50,7 @@ module _ (row hour : ℕ) (l : row < 32) (p : 1 ≤ hour) (q : hour ≤ 25) wher
   granted-step b (OfferDirection time d h mw) s = sym (add-zero _)
   granted-step b (OfferProfile time k h mw) s = sym (add-zero _)
   granted-step b (Bid time k d session mw) s =
-      let first : ℕ = firstHour (b .hours) (direction (b .directions) d .model) session in
+      let first : ℕ = firstHour (b .day .hours) (direction (b .directions) d .model) session in
       rw (
         getD-withBid (b .profiles) d first mw (b .granted) (place row hour) (omega (arith, s .1 .granted)),
         place-row row hour,
@@ -61,8 +61,8 @@ module _ (row hour : ℕ) (l : row < 32) (p : 1 ≤ hour) (q : hour ≤ 25) wher
 
   -- the directions and profiles at the end are those that the bid met
   final-mw : (b : Book) (c : Call) (cs : List Call) → AllGranted (effect b c) cs
-      → bidMw (b .hours) (after (effect b c) cs .directions) (after (effect b c) cs .profiles) row hour c
-      ≡ bidMw (b .hours) (b .directions) (b .profiles) row hour c
+      → bidMw (b .day .hours) (after (effect b c) cs .directions) (after (effect b c) cs .profiles) row hour c
+      ≡ bidMw (b .day .hours) (b .directions) (b .profiles) row hour c
   unfolding bidMw
   final-mw b (AddDirection o i m) cs g = refl
   final-mw b (AddProfile map) cs g = refl
@@ -77,7 +77,7 @@ module _ (row hour : ℕ) (l : row < 32) (p : 1 ≤ hour) (q : hour ≤ 25) wher
 
   granted-after : (b : Book) (cs : List Call) → AllGranted b cs → Sound b
       → getD (after b cs .granted) (place row hour) 0
-      ≡ getD (b .granted) (place row hour) 0 + bidSum (b .hours) (after b cs .directions) (after b cs .profiles) row hour cs
+      ≡ getD (b .granted) (place row hour) 0 + bidSum (b .day .hours) (after b cs .directions) (after b cs .profiles) row hour cs
   unfolding bidSum effect
   granted-after b [] g s = sym (add-zero _)
   granted-after b (c ∷ cs) g s =
@@ -127,19 +127,19 @@ profiles-after b (c ∷ cs) = profiles-after (effect b c) cs ∙ profiles-more (
 
 -- ---- the demand
 
-module _ (n day : ℕ) (f : 23 ≤ n) (h : n ≤ 25) (row hour : ℕ) (l : row < 32) (p : 1 ≤ hour) (q : hour ≤ 25) where
-  granted-total : (gs : List Call) → AllGranted (opened n day) gs
-      → getD (after (opened n day) gs .granted) (place row hour) 0 ≡ bidSum n (directionsOf gs) (profilesOf gs) row hour gs
+module _ (day : Day) (f : 23 ≤ day .hours) (h : day .hours ≤ 25) (row hour : ℕ) (l : row < 32) (p : 1 ≤ hour) (q : hour ≤ 25) where
+  granted-total : (gs : List Call) → AllGranted (opened day) gs
+      → getD (after (opened day) gs .granted) (place row hour) 0 ≡ bidSum (day .hours) (directionsOf gs) (profilesOf gs) row hour gs
   unfolding opened
   granted-total gs g =
-      granted-after row hour l p q (opened n day) gs g (sound-opened n day f h)
-      ∙ rw (getD-replicate {A = ℕ} 800 (place row hour) 0 0 (omega arith), directions-after (opened n day) gs, profiles-after (opened n day) gs) (zero-add _)
+      granted-after row hour l p q (opened day) gs g (sound-opened day f h)
+      ∙ rw (getD-replicate {A = ℕ} 800 (place row hour) 0 0 (omega arith), directions-after (opened day) gs, profiles-after (opened day) gs) (zero-add _)
 
-  offered-last : (gs : List Call) → AllGranted (opened n day) gs
-      → getD (after (opened n day) gs .offered) (place row hour) 0 ≡ lastOffer row hour 0 gs
+  offered-last : (gs : List Call) → AllGranted (opened day) gs
+      → getD (after (opened day) gs .offered) (place row hour) 0 ≡ lastOffer row hour 0 gs
   unfolding opened
   offered-last gs g =
-      offered-after row hour l p q (opened n day) gs g (sound-opened n day f h) ∙ rw (getD-replicate {A = ℕ} 800 (place row hour) 0 0 (omega arith))
+      offered-after row hour l p q (opened day) gs g (sound-opened day f h) ∙ rw (getD-replicate {A = ℕ} 800 (place row hour) 0 0 (omega arith))
 
 -- left and shortfall are the differences between the last granted offer and the granted MW, which are at most 9,999
 pub record Balance (left shortfall offer granted : ℕ) : Type 0 where
@@ -147,53 +147,53 @@ pub record Balance (left shortfall offer granted : ℕ) : Type 0 where
   pub shortfall-is : shortfall ≡ granted - offer
   pub within : granted ≤ 9999
 
-pub balance : (n day : ℕ) → 23 ≤ n → n ≤ 25 → (gs : List Call) → AllGranted (opened n day) gs → (row hour : ℕ) → row < 32 → 1 ≤ hour → hour ≤ 25
-    → let b : Book = after (opened n day) gs in
-    Balance (leftAt b row hour) (shortfallAt b row hour) (lastOffer row hour 0 gs) (grantedMw n gs row hour)
-balance n day f h gs g row hour l p q =
-    let o = offered-last n day f h row hour l p q gs g in
-    let t = granted-total n day f h row hour l p q gs g in
-    let s = sound-after (opened n day) gs g (sound-opened n day f h) in
+pub balance : (day : Day) → 23 ≤ day .hours → day .hours ≤ 25 → (gs : List Call) → AllGranted (opened day) gs → (row hour : ℕ) → row < 32 → 1 ≤ hour → hour ≤ 25
+    → let b : Book = after (opened day) gs in
+    Balance (leftAt b row hour) (shortfallAt b row hour) (lastOffer row hour 0 gs) (grantedMw (day .hours) gs row hour)
+balance day f h gs g row hour l p q =
+    let o = offered-last day f h row hour l p q gs g in
+    let t = granted-total day f h row hour l p q gs g in
+    let s = sound-after (opened day) gs g (sound-opened day f h) in
     record { left-is = rw (o, t); shortfall-is = rw (o, t); within = rw (← t) (s .1 .grants-within (place row hour)) }
 
 -- ---- the day and set-up, after granted calls and after a run
 
-hours-after : (b : Book) (cs : List Call) → after b cs .hours ≡ b .hours
+day-after : (b : Book) (cs : List Call) → after b cs .day ≡ b .day
 unfolding effect
-hours-after b [] = refl
-hours-after b (c ∷ cs) = hours-after (effect b c) cs
+day-after b [] = refl
+day-after b (c ∷ cs) = day-after (effect b c) cs
 
 -- those of a book that was opened
-module _ (n day : ℕ) (gs : List Call) where
-  pub hours-opened : after (opened n day) gs .hours ≡ n
+module _ (day : Day) (gs : List Call) where
+  pub day-opened : after (opened day) gs .day ≡ day
   unfolding opened
-  hours-opened = hours-after (opened n day) gs
+  day-opened = day-after (opened day) gs
 
-  pub directions-opened : after (opened n day) gs .directions ≡ directionsOf gs
+  pub directions-opened : after (opened day) gs .directions ≡ directionsOf gs
   unfolding opened
-  directions-opened = directions-after (opened n day) gs
+  directions-opened = directions-after (opened day) gs
 
-  pub profiles-opened : after (opened n day) gs .profiles ≡ profilesOf gs
+  pub profiles-opened : after (opened day) gs .profiles ≡ profilesOf gs
   unfolding opened
-  profiles-opened = profiles-after (opened n day) gs
+  profiles-opened = profiles-after (opened day) gs
 
-module _ (n day : ℕ) (cs : List Call) where
-  pub hours-run : run (opened n day) cs .book .hours ≡ n
-  hours-run = rw (run-follows (opened n day) cs .book) (hours-opened n day (history (opened n day) cs))
+module _ (day : Day) (cs : List Call) where
+  pub day-run : run (opened day) cs .book .day ≡ day
+  day-run = rw (run-follows (opened day) cs .book) (day-opened day (history (opened day) cs))
 
-  pub directions-run : run (opened n day) cs .book .directions ≡ directionsOf (history (opened n day) cs)
-  directions-run = rw (run-follows (opened n day) cs .book) (directions-opened n day (history (opened n day) cs))
+  pub directions-run : run (opened day) cs .book .directions ≡ directionsOf (history (opened day) cs)
+  directions-run = rw (run-follows (opened day) cs .book) (directions-opened day (history (opened day) cs))
 
-  pub profiles-run : run (opened n day) cs .book .profiles ≡ profilesOf (history (opened n day) cs)
-  profiles-run = rw (run-follows (opened n day) cs .book) (profiles-opened n day (history (opened n day) cs))
+  pub profiles-run : run (opened day) cs .book .profiles ≡ profilesOf (history (opened day) cs)
+  profiles-run = rw (run-follows (opened day) cs .book) (profiles-opened day (history (opened day) cs))
 
-  pub sound-run : 23 ≤ n → n ≤ 25 → Sound (run (opened n day) cs .book)
+  pub sound-run : 23 ≤ day .hours → day .hours ≤ 25 → Sound (run (opened day) cs .book)
   sound-run f h =
-      rw (run-follows (opened n day) cs .book)
-      (sound-after (opened n day) (history (opened n day) cs) (run-follows (opened n day) cs .granted) (sound-opened n day f h))
+      rw (run-follows (opened day) cs .book)
+      (sound-after (opened day) (history (opened day) cs) (run-follows (opened day) cs .granted) (sound-opened day f h))
 
-  pub balance-run : 23 ≤ n → n ≤ 25 → (row hour : ℕ) → row < 32 → 1 ≤ hour → hour ≤ 25
-      → let gs : List Call = history (opened n day) cs in
-      Balance (leftAt (run (opened n day) cs .book) row hour) (shortfallAt (run (opened n day) cs .book) row hour) (lastOffer row hour 0 gs) (grantedMw n gs row hour)
+  pub balance-run : 23 ≤ day .hours → day .hours ≤ 25 → (row hour : ℕ) → row < 32 → 1 ≤ hour → hour ≤ 25
+      → let gs : List Call = history (opened day) cs in
+      Balance (leftAt (run (opened day) cs .book) row hour) (shortfallAt (run (opened day) cs .book) row hour) (lastOffer row hour 0 gs) (grantedMw (day .hours) gs row hour)
   balance-run f h row hour l p q =
-      rw (run-follows (opened n day) cs .book) (balance n day f h (history (opened n day) cs) (run-follows (opened n day) cs .granted) row hour l p q)
+      rw (run-follows (opened day) cs .book) (balance day f h (history (opened day) cs) (run-follows (opened day) cs .granted) row hour l p q)

@@ -1,4 +1,5 @@
 pub mod Bools
+pub mod Days
 pub mod Above
 pub mod Listed
 pub mod Decisions

@@ -35,9 +35,9 @@ pub calls-listed : (b : Book) (c : Call) → Listed (refuses b c)
 unfolding refuses has
 calls-listed b c n = case n 3 _ _ refl (case n 4 _ _ refl (case n 5 _ _ refl (case n 6 _ _ refl (case n 7 _ _ refl (case n 16 _ _ refl (case n 8 _ _ refl (case n 9 _ _ refl (case n 10 _ _ refl (case n 11 _ _ refl (case n 12 _ _ refl (case n 13 _ _ refl (case n 15 _ _ refl (none-other n)))))))))))))
 
-pub openings-listed : (hours day : ℕ) → Listed (openingRefuses hours day)
+pub openings-listed : (y m d : ℕ) → Listed (openingRefuses y m d)
 unfolding openingRefuses has
-openings-listed hours day n = case n 2 _ _ refl (none-other n)
+openings-listed y m d n = case n 17 _ _ refl (none-other n)
 
 pub directions-listed : (b : Book) (d hour : ℕ) → Listed (directionReadRefuses b d hour)
 unfolding directionReadRefuses has

@@ -11,7 +11,7 @@ use lib.ListN.{length, getD, length-set, length-replicate, getD-replicate}
 use borrow.Author.Tests.{leb-false, not-false}
 use Rattle.rules.specs.Basics.{has}
 use Rattle.rules.specs.Sessions.{sessionThere}
-use Rattle.rules.specs.Book.{Direction, Right, Book, flag, direction, right, opened, modelOf}
+use Rattle.rules.specs.Book.{Day, Direction, Right, Book, flag, direction, right, opened, modelOf}
 use Rattle.rules.specs.Calls.{Call, AddDirection, AddProfile, AddParty, OfferDirection, OfferProfile, Bid, Nominate, Match}
 use Rattle.rules.specs.Refusals.{order, refuses, unknown, isMatched}
 use Rattle.rules.specs.Effects.{matchedAfter, effect}
@@ -32,12 +32,12 @@ record There (d s : ℕ) : Type 0 where
   pub from : 1 ≤ s
   pub to : s ≤ 25
 
-session-there : (b : Book) → Sound b → (d s : ℕ) → d < length (b .directions) → sessionThere (b .hours) (modelOf b d) s ≡ true → There d s
+session-there : (b : Book) → Sound b → (d s : ℕ) → d < length (b .directions) → sessionThere (b .day .hours) (modelOf b d) s ≡ true → There d s
 session-there b w d s l t =
     record {
       rows = omega (arith, w .0 .directions);
-      from = session-from (b .hours) (modelOf b d) s t;
-      to = session-to (b .hours) (modelOf b d) s (w .0 .hours-to) t;
+      from = session-from (b .day .hours) (modelOf b d) s t;
+      to = session-to (b .day .hours) (modelOf b d) s (w .0 .hours-to) t;
     }
 
 -- of a matching that is granted
@@ -102,28 +102,28 @@ fits-at n ds grants [] r a h = absurd (omega arith)
 fits-at n ds grants (x ∷ xs) zero a h = a .0
 fits-at n ds grants (x ∷ xs) (suc r) a h = fits-at n ds grants xs r (a .1) (le-of-suc-le-suc h)
 
-module _ (n day : ℕ) (f : 23 ≤ n) (t : n ≤ 25) (cs : List Call) where
+module _ (day : Day) (f : 23 ≤ day .hours) (t : day .hours ≤ 25) (cs : List Call) where
   abbrev gs : List Call
-  gs = history (opened n day) cs
+  gs = history (opened day) cs
 
   abbrev end : Book
-  end = after (opened n day) gs
+  end = after (opened day) gs
 
-  all : AllGranted (opened n day) gs
-  all = run-follows (opened n day) cs .granted
+  all : AllGranted (opened day) gs
+  all = run-follows (opened day) cs .granted
 
   end-sound : Sound end
-  end-sound = sound-after (opened n day) gs all (sound-opened n day f t)
+  end-sound = sound-after (opened day) gs all (sound-opened day f t)
 
   flag-is : (d s : ℕ) → There d s → isMatched (end .matched) d s ≡ wasMatched d s gs
   unfolding isMatched opened
   flag-is d s u =
-      matched-after d s u (opened n day) gs all (sound-opened n day f t) (length-replicate {A = ℕ} 600 0)
+      matched-after d s u (opened day) gs all (sound-opened day f t) (length-replicate {A = ℕ} 600 0)
       ∙ rw (getD-replicate {A = ℕ} 600 (flag d s) 0 0 (omega (arith, u .rows, u .to)))
 
   pub matched-is : (r : ℕ) → r < length (end .rights)
       → isMatched (end .matched) (right (end .rights) r .direction) (right (end .rights) r .session)
       ≡ wasMatched (right (end .rights) r .direction) (right (end .rights) r .session) gs
   matched-is r l =
-      let x = fits-at (end .hours) (end .directions) (end .granted) (end .rights) r (fit-after (opened n day) gs all (sound-opened n day f t) (fit-opened n day)) l in
+      let x = fits-at (end .day .hours) (end .directions) (end .granted) (end .rights) r (fit-after (opened day) gs all (sound-opened day f t) (fit-opened day)) l in
       flag-is _ _ (session-there end end-sound _ _ (x .known) (x .is-there))

@@ -10,7 +10,7 @@ use lib.Dec.{eqb, leb, ltb}
 use lib.ListN.{length, getD}
 use borrow.Author.Tests.{eqb-true, leb-false, ltb-true, ltb-false, lt-ltb}
 use Rattle.rules.specs.Basics.{noMw, five}
-use Rattle.rules.specs.Book.{Right, Pair, Book, right, opened}
+use Rattle.rules.specs.Book.{Day, Right, Pair, Book, right, opened}
 use Rattle.rules.specs.Calls.{Call}
 use Rattle.rules.specs.Nominations.{isPairOf, pairTaken, pairOf, confirmedOf, confirmedAt}
 use Rattle.rules.specs.Refusals.{order, firstOf, isMatched}
@@ -52,30 +52,30 @@ number-is b r o i =
     go false true = refl
     go false false = refl
 
-module _ (n day : ℕ) (f : 23 ≤ n) (t : n ≤ 25) (cs : List Call) where
+module _ (day : Day) (f : 23 ≤ day .hours) (t : day .hours ≤ 25) (cs : List Call) where
   abbrev gs : List Call
-  gs = history (opened n day) cs
+  gs = history (opened day) cs
 
   abbrev end : Book
-  end = run (opened n day) cs .book
+  end = run (opened day) cs .book
 
   abbrev rs : List Right
   rs = rightsFrom (directionsOf gs) [] gs
 
   mw-is : (r o i k : ℕ) → confirmedAt (end .rights) (end .pairs) k (pairOf r o i (end .pairs)) ≡ confirmedMw rs gs r o i k
   unfolding confirmedAt
-  mw-is r o i k = rw (pair-right r o i (end .pairs), lower-total n day cs k r, lower-is n day cs k r o i, rights n day f t cs)
+  mw-is r o i k = rw (pair-right r o i (end .pairs), lower-total day cs k r, lower-is day cs k r o i, rights day f t cs)
 
   -- where the right is there, its session was matched exactly where the history says so
   flag-same : (r : ℕ) → leb (length (end .rights)) r ≡ false
       → isMatched (end .matched) (right (end .rights) r .direction) (right (end .rights) r .session)
       ≡ wasMatched (right (end .rights) r .direction) (right (end .rights) r .session) gs
-  flag-same r e = rw (run-follows (opened n day) cs .book) (matched-is n day f t cs r (rw (run-follows (opened n day) cs .book) at (leb-false (length (end .rights)) r e)))
+  flag-same r e = rw (run-follows (opened day) cs .book) (matched-is day f t cs r (rw (run-follows (opened day) cs .book) at (leb-false (length (end .rights)) r e)))
 
   number-same : (r o i : ℕ) → firstOf (confirmedReadRefuses end r o i) order ≡ confirmedNumber rs gs r o i
   number-same r o i =
       number-is end r o i
-      ∙ rw (← has-key r o i (end .pairs), keys n day cs, ← rights n day f t cs) (go (leb (length (end .rights)) r) refl)
+      ∙ rw (← has-key r o i (end .pairs), keys day cs, ← rights day f t cs) (go (leb (length (end .rights)) r) refl)
     where
       go : (z : Bool) → leb (length (end .rights)) r ≡ z
           → _≡_ {A = ℕ}

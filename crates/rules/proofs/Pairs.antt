@@ -9,7 +9,7 @@ use lib.Dec.{eqb, ltb}
 use borrow.Author.Tests.{eqb-true, eqb-false, eq-eqb, ne-eqb, ltb-false}
 use Rattle.rules.specs.Basics.{has, noMw}
 use Rattle.rules.specs.Windows.{latest}
-use Rattle.rules.specs.Book.{Pair, Book, opened}
+use Rattle.rules.specs.Book.{Day, Pair, Book, opened}
 use Rattle.rules.specs.Calls.{Call, AddDirection, AddProfile, AddParty, OfferDirection, OfferProfile, Bid, Nominate, Match}
 use Rattle.rules.specs.Nominations.{outOf, intoOf, isPairOf, pairTaken, pairOf, withSide, withPair, sideOf, lower, lowerTotal}
 use Rattle.rules.specs.Refusals.{order, refuses, field}
@@ -93,11 +93,11 @@ unfolding pairsFrom effect
 keys-after b [] g = refl
 keys-after b (c ∷ cs) g = rw (← keys-step b c (g .0)) (keys-after (effect b c) cs (g .1))
 
-pub keys : (n day : ℕ) (cs : List Call) → keysOf (run (opened n day) cs .book .pairs) ≡ pairsFrom [] (history (opened n day) cs)
+pub keys : (day : Day) (cs : List Call) → keysOf (run (opened day) cs .book .pairs) ≡ pairsFrom [] (history (opened day) cs)
 unfolding opened
-keys n day cs =
-    let w = run-follows (opened n day) cs in
-    rw (w .book) (keys-after (opened n day) (history (opened n day) cs) (w .granted))
+keys day cs =
+    let w = run-follows (opened day) cs in
+    rw (w .book) (keys-after (opened day) (history (opened day) cs) (w .granted))
 
 -- ---- right, out party and in party compared
 
@@ -265,21 +265,21 @@ own (x ∷ xs) u = (rw (key-refl (x .right) (x .out) (x .into)), own-more x xs x
 
 -- ---- the demand
 
-module _ (n day : ℕ) (cs : List Call) where
+module _ (day : Day) (cs : List Call) where
   abbrev gs : List Call
-  gs = history (opened n day) cs
+  gs = history (opened day) cs
 
   abbrev ps : List Pair
-  ps = run (opened n day) cs .book .pairs
+  ps = run (opened day) cs .book .pairs
 
-  at-the-end : ps ≡ after (opened n day) gs .pairs
-  at-the-end = ap (λ (b : Book). b .pairs) (run-follows (opened n day) cs .book)
+  at-the-end : ps ≡ after (opened day) gs .pairs
+  at-the-end = ap (λ (b : Book). b .pairs) (run-follows (opened day) cs .book)
 
   -- a pair's sides are its last granted nominations, no MW if none
   side : (s : ℕ) → Side s → (r o i : ℕ) → sideOf s (pairOf r o i ps) ≡ lastSide r o i s (sideOf s (pairOf r o i [])) gs
   unfolding opened
   side s a r o i =
-      ap (λ (qs : List Pair). sideOf s (pairOf r o i qs)) at-the-end ∙ side-after r o i s a (opened n day) gs (run-follows (opened n day) cs .granted)
+      ap (λ (qs : List Pair). sideOf s (pairOf r o i qs)) at-the-end ∙ side-after r o i s a (opened day) gs (run-follows (opened day) cs .granted)
 
   pub out-side : (r o i : ℕ) → pairOf r o i ps .outMw ≡ lastSide r o i 0 noMw gs
   unfolding pairOf
@@ -291,7 +291,7 @@ module _ (n day : ℕ) (cs : List Call) where
 
   pub owned : Own ps ps
   unfolding opened
-  owned = own ps (subst⁻¹ Unique at-the-end (unique-after (opened n day) gs tt))
+  owned = own ps (subst⁻¹ Unique at-the-end (unique-after (opened day) gs tt))
 
   -- the lower values, and their sum over a right's pairs
   pub lower-is : (k r o i : ℕ) → lower k (pairOf r o i ps) ≡ lowerMw gs k r o i
@@ -305,4 +305,4 @@ module _ (n day : ℕ) (cs : List Call) where
       (ap (λ (m : ℕ). cond (eqb (x .right) r) m 0 + lowerSum gs k r (keysOf qs)) (ap (lower k) (sym (w .0)) ∙ lower-is k (x .right) (x .out) (x .into)))
 
   pub lower-total : (k r : ℕ) → lowerTotal r k ps ≡ lowerSum gs k r (pairsFrom [] gs)
-  lower-total k r = total-is k r ps owned ∙ ap (lowerSum gs k r) (keys n day cs)
+  lower-total k r = total-is k r ps owned ∙ ap (lowerSum gs k r) (keys day cs)

@@ -10,7 +10,7 @@ use lib.Dec.{eqb, leb}
 use borrow.Author.Tests.{eqb-true, lt-ltb}
 use Rattle.rules.specs.Basics.{mwAt}
 use Rattle.rules.specs.Sessions.{firstHour}
-use Rattle.rules.specs.Book.{Direction, Right, Book, direction, opened, holds}
+use Rattle.rules.specs.Book.{Day, Direction, Right, Book, direction, opened, holds}
 use Rattle.rules.specs.Calls.{Call, AddDirection, AddProfile, AddParty, OfferDirection, OfferProfile, Bid, Nominate, Match}
 use Rattle.rules.specs.Effects.{rightsAfter, effect}
 use Rattle.rules.specs.Run.{run}
@@ -50,15 +50,15 @@ pub fit-after : (b : Book) (cs : List Call) → AllGranted b cs → Sound b → 
 fit-after b [] g s f = f
 fit-after b (c ∷ cs) g s f = fit-after (effect b c) cs (g .1) (sound-step b c (g .0) s) (fit-step b c (g .0) s f)
 
-pub rights : (n day : ℕ) → 23 ≤ n → n ≤ 25 → (cs : List Call)
-    → let gs : List Call = history (opened n day) cs in
-    run (opened n day) cs .book .rights ≡ rightsFrom (directionsOf gs) [] gs
+pub rights : (day : Day) → 23 ≤ day .hours → day .hours ≤ 25 → (cs : List Call)
+    → let gs : List Call = history (opened day) cs in
+    run (opened day) cs .book .rights ≡ rightsFrom (directionsOf gs) [] gs
 unfolding opened
-rights n day f t cs =
-    let b : Book = opened n day in
+rights day f t cs =
+    let b : Book = opened day in
     let gs : List Call = history b cs in
     let w = run-follows b cs in
-    rw (w .book, rights-after b gs (w .granted) (sound-opened n day f t) (fit-opened n day), directions-after b gs)
+    rw (w .book, rights-after b gs (w .granted) (sound-opened day f t) (fit-opened day), directions-after b gs)
 
 -- ---- sums
 

@@ -11,7 +11,7 @@ use lib.ListN.{length, getD, List·getD-append, length-append}
 use borrow.Author.Tests.{eqb-true, leb-false, ltb-true, ltb-false, le-leb, not-false}
 use Rattle.rules.specs.Basics.{has, mwAt}
 use Rattle.rules.specs.Sessions.{sessionThere, firstHour, hoursIn}
-use Rattle.rules.specs.Book.{Direction, Right, Book, direction, place, opened, modelOf}
+use Rattle.rules.specs.Book.{Day, Direction, Right, Book, direction, place, opened, modelOf}
 use Rattle.rules.specs.Calls.{Call, AddDirection, AddProfile, AddParty, OfferDirection, OfferProfile, Bid, Nominate, Match}
 use Rattle.rules.specs.Bids.{share, withBid, cellValues, wrapAdded, isRightOf, addedRight, withRight}
 use Rattle.rules.specs.Refusals.{order, refuses, unknown, wrongHours, hoursLacking}
@@ -56,7 +56,7 @@ AllFit n ds grants [] = Unit {0}
 AllFit n ds grants (x ∷ xs) = Fits n ds grants x × AllFit n ds grants xs
 
 abbrev pub RightsFit : Book → Type 0
-RightsFit b = AllFit (b .hours) (b .directions) (b .granted) (b .rights)
+RightsFit b = AllFit (b .day .hours) (b .directions) (b .granted) (b .rights)
 
 -- ---- what leaves the rights alone
 
@@ -92,7 +92,7 @@ more-directions n ds y grants (x ∷ rs) a =
 
 module _ (b : Book) (w : Sound b) (time p d session : ℕ) (mw : List ℕ) (g : Granted b (Bid time p d session mw)) where
   abbrev n : ℕ
-  n = b .hours
+  n = b .day .hours
 
   abbrev model : ℕ
   model = modelOf b d
@@ -221,7 +221,7 @@ module _ (b : Book) (w : Sound b) (time p d session : ℕ) (mw : List ℕ) (g : 
 
 pub fit-step : (b : Book) (c : Call) → Granted b c → Sound b → RightsFit b → RightsFit (effect b c)
 unfolding effect directionsAfter grantedAfter rightsAfter
-fit-step b (AddDirection o i m) g w a = more-directions (b .hours) (b .directions) _ (b .granted) (b .rights) a
+fit-step b (AddDirection o i m) g w a = more-directions (b .day .hours) (b .directions) _ (b .granted) (b .rights) a
 fit-step b (AddProfile map) g w a = a
 fit-step b (AddParty code access) g w a = a
 fit-step b (OfferDirection time d hour mw) g w a = a
@@ -231,6 +231,6 @@ fit-step b (Bid time p d session mw) g w a =
 fit-step b (Nominate time sender other r side mw) g w a = a
 fit-step b (Match time d session) g w a = a
 
-pub fit-opened : (n day : ℕ) → RightsFit (opened n day)
+pub fit-opened : (day : Day) → RightsFit (opened day)
 unfolding opened
-fit-opened n day = tt
+fit-opened day = tt

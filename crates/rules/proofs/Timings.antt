@@ -31,7 +31,7 @@ never-both b c = go (timingOf b c)
 
 matching-never-late : (b : Book) (time d session : ℕ) → refuses b (Match time d session) 8 ≡ false
 unfolding refuses timingOf matchingTiming
-matching-never-late b time d session = go (ltb time (matchingOpens (b .weekday) (modelOf b d) (firstHour (b .hours) (modelOf b d) session)))
+matching-never-late b time d session = go (ltb time (matchingOpens (b .day .weekday) (modelOf b d) (firstHour (b .day .hours) (modelOf b d) session)))
   where
     go : (t : Bool) → tooLate (cond t Early Within) ≡ false
     go true = refl
@@ -56,7 +56,7 @@ gate-hour-from weekday model hour h = go (eqb weekday 2 && eqb model 1 && ltb 21
     go true = omega arith
     go false = h
 
-held-is-early : (b : Book) (time p d session : ℕ) (mw : List ℕ) → held (b .weekday) time ≡ true → refuses b (Bid time p d session mw) 16 ≡ true
+held-is-early : (b : Book) (time p d session : ℕ) (mw : List ℕ) → held (b .day .weekday) time ≡ true → refuses b (Bid time p d session mw) 16 ≡ true
 unfolding refuses timingOf bidTiming
 held-is-early b time p d session mw e = rw e
 

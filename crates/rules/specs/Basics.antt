@@ -6,6 +6,10 @@ use mathlib.Core.List.{List, [], _∷_}
 use lib.Dec.{leb, ltb, eqb}
 use lib.ListN.{getD}
 
+-- from a to e
+unfoldable pub between : ℕ → ℕ → ℕ → Bool
+between a e x = leb a x && leb x e
+
 -- the five MW of a call or a side that has none
 abbrev pub noMw : List ℕ
 noMw = 0 ∷ 0 ∷ 0 ∷ 0 ∷ 0 ∷ []

@@ -33,12 +33,22 @@ pub record Pair : Type 0 where
   pub outMw : List ℕ
   pub intoMw : List ℕ
 
+-- the date of a day: year, month and day of the month; the book of a refused opening has none (02, S-3)
+pub data BookDate : Type 0 where
+  NoDate : BookDate
+  On : ℕ → ℕ → ℕ → BookDate
+
+-- 01, Day and clock: the delivery day of a book, with its count of hours and its weekday, Monday 1 to Sunday 7
+pub record Day : Type 0 where
+  pub date : BookDate
+  pub hours : ℕ
+  pub weekday : ℕ
+
 -- `started`: a timed call was granted; `clock` is the time of the latest. A profile is its map: bit d for direction d.
 -- `offered` and `granted` have a row of 25 hours for each direction (rows 0 to 23) and each profile (rows 24 to 31): row r, hour h at `place r h`.
 -- `matched` holds 1 at `flag d s` where session s of direction d was matched, else 0.
 pub record Book : Type 0 where
-  pub hours : ℕ
-  pub weekday : ℕ
+  pub day : Day
   pub started : Bool
   pub clock : ℕ
   pub directions : List Direction
@@ -82,11 +92,10 @@ unfoldable pub holds : List ℕ → ℕ → ℕ → Bool
 holds maps d row = cond (ltb row directionLimit) (eqb row d) (bit (getD maps (row - directionLimit) 0) d)
 
 -- the book of a day, as opened
-unfoldable pub opened : ℕ → ℕ → Book
-opened n day =
+unfoldable pub opened : Day → Book
+opened day =
     record {
-      hours = n;
-      weekday = day;
+      day = day;
       started = false;
       clock = 0;
       directions = [];

@@ -8,8 +8,9 @@ use lib.ListN.{getD}
 use Rattle.rules.specs.Sessions.{firstHour, hoursIn}
 use Rattle.rules.specs.Windows.{bidsClose, bidTiming, nominationTiming, offerTiming, matchingTiming}
 use Rattle.rules.specs.Codes.{charValue, weightedSum, isCode}
+use Rattle.rules.specs.Book.{BookDate, NoDate, On}
 use Rattle.rules.specs.Calls.{Call, AddDirection, AddProfile, AddParty, OfferDirection, OfferProfile, Bid, Nominate, Match, Reply}
-use Rattle.rules.specs.Run.{Run, run}
+use Rattle.rules.specs.Run.{Step, Run, run}
 use Rattle.rules.specs.Opening.{opening}
 use Rattle.rules.specs.Reads.{LeftReply, readDirection, readProfile, readConfirmed}
 use Rattle.rules.specs.Records.{recordOf, reading, fieldsOf, callOf}
@@ -40,9 +41,20 @@ numbersOf (r ∷ rs) = r .number ∷ r .first ∷ r .second ∷ numbersOf rs
 abbrev leftNumbers : LeftReply → List ℕ
 leftNumbers r = r .reply .number ∷ r .left ∷ r .shortfall ∷ []
 
+-- year, month and day; nothing where there is no date
+abbrev dateNumbers : BookDate → List ℕ
+dateNumbers NoDate = []
+dateNumbers (On y m d) = y ∷ m ∷ d ∷ []
+
+-- of an opening: the reply's number, and the weekday, the hours and the date of the book
+abbrev opensAs : ℕ → ℕ → ℕ → List ℕ
+opensAs y m d =
+    let o : Step = opening y m d in
+    o .reply .number ∷ o .book .day .weekday ∷ o .book .day .hours ∷ dateNumbers (o .book .day .date)
+
 -- first and last hour of a session of the four-hour model
-abbrev hoursOf : ℕ → ℕ → List ℕ
-hoursOf n session = firstHour n 4 session ∷ (firstHour n 4 session + hoursIn n 4 session - 1) ∷ []
+abbrev hoursOfSession : ℕ → ℕ → List ℕ
+hoursOfSession n session = firstHour n 4 session ∷ (firstHour n 4 session + hoursIn n 4 session - 1) ∷ []
 
 -- 0 within the window, or the number that refuses
 abbrev refusedBy : Timing → ℕ
@@ -69,9 +81,9 @@ noTuesday = 1 ∷ 3 ∷ 4 ∷ 5 ∷ 6 ∷ 7 ∷ []
 abbrev sixTimes : ℕ → List ℕ
 sixTimes x = x ∷ x ∷ x ∷ x ∷ x ∷ x ∷ []
 
--- on a Monday of 24 hours
+-- on Monday 1 June 2015
 unfoldable pub monday : List Call → Run
-monday cs = run (opening 24 1 .book) cs
+monday cs = run (opening 2015 6 1 .book) cs
 
 -- ---- party codes
 
@@ -224,16 +236,35 @@ bidBytes = 0x57 ∷ 0x02 ∷ 0x03 ∷ 0x4C ∷ 0x04 ∷ 0x02 ∷ 0x00 ∷ 0x01 �
 
 unfoldable pub cases : List Case
 cases =
+    -- 02, S-3: 29 March 2015 is a Sunday with 23 hours, and 25 October one with 25; the days beside them have 24
+    record {
+      computed = opensAs 2015 3 28 ++ opensAs 2015 3 29 ++ opensAs 2015 3 30;
+      said = 0 ∷ 6 ∷ 24 ∷ 2015 ∷ 3 ∷ 28 ∷ 0 ∷ 7 ∷ 23 ∷ 2015 ∷ 3 ∷ 29 ∷ 0 ∷ 1 ∷ 24 ∷ 2015 ∷ 3 ∷ 30 ∷ [];
+    }
+    ∷ record {
+      computed = opensAs 2015 10 24 ++ opensAs 2015 10 25 ++ opensAs 2015 10 26;
+      said = 0 ∷ 6 ∷ 24 ∷ 2015 ∷ 10 ∷ 24 ∷ 0 ∷ 7 ∷ 25 ∷ 2015 ∷ 10 ∷ 25 ∷ 0 ∷ 1 ∷ 24 ∷ 2015 ∷ 10 ∷ 26 ∷ [];
+    }
+    -- 1 June 2015 is a Monday, and 4 June a Thursday with 24 hours
+    ∷ record { computed = opensAs 2015 6 1 ++ opensAs 2015 6 4; said = 0 ∷ 1 ∷ 24 ∷ 2015 ∷ 6 ∷ 1 ∷ 0 ∷ 4 ∷ 24 ∷ 2015 ∷ 6 ∷ 4 ∷ [] }
+    -- 29 February 2000 is there, and 29 February 2100 isn't: 17, and 01's Monday of 24 hours, which has no date
+    ∷ record { computed = opensAs 2000 2 29 ++ opensAs 2100 2 29; said = 0 ∷ 2 ∷ 24 ∷ 2000 ∷ 2 ∷ 29 ∷ 17 ∷ 1 ∷ 24 ∷ [] }
+    -- the cycle begins on a Saturday and ends with 31 December 2399, a Friday
+    ∷ record { computed = opensAs 1999 12 31 ++ opensAs 2000 1 1; said = 17 ∷ 1 ∷ 24 ∷ 0 ∷ 6 ∷ 24 ∷ 2000 ∷ 1 ∷ 1 ∷ [] }
+    ∷ record { computed = opensAs 2399 12 31 ++ opensAs 2400 1 1; said = 0 ∷ 5 ∷ 24 ∷ 2399 ∷ 12 ∷ 31 ∷ 17 ∷ 1 ∷ 24 ∷ [] }
+    -- no month 0 or 13, no day 0 or 32, no 31 April
+    ∷ record { computed = opensAs 2015 0 1 ++ opensAs 2015 13 1; said = 17 ∷ 1 ∷ 24 ∷ 17 ∷ 1 ∷ 24 ∷ [] }
+    ∷ record { computed = opensAs 2015 1 0 ++ opensAs 2015 1 32 ++ opensAs 2015 4 31; said = 17 ∷ 1 ∷ 24 ∷ 17 ∷ 1 ∷ 24 ∷ 17 ∷ 1 ∷ 24 ∷ [] }
     -- 10XCZ-CEPS-GRIDE is a party code
-    record { computed = yes-no (isCode ceps) ∷ []; said = 1 ∷ [] }
+    ∷ record { computed = yes-no (isCode ceps) ∷ []; said = 1 ∷ [] }
     -- 10YCZ-CEPS-----N checks (N is 23) but has no X
     ∷ record { computed = yes-no (isCode area) ∷ due area ∷ charValue (getD area 15 0) ∷ []; said = 0 ∷ 23 ∷ 23 ∷ [] }
     -- 11XUNI-CZ------5 fails: V (31) would be due
     ∷ record { computed = yes-no (isCode (uni 53)) ∷ due (uni 53) ∷ charValue 86 ∷ yes-no (isCode (uni 86)) ∷ []; said = 0 ∷ 31 ∷ 31 ∷ 1 ∷ [] }
     -- N = 25: session 1 is hours 1-5, 2 is 6-9
-    ∷ record { computed = hoursOf 25 1 ++ hoursOf 25 2; said = 1 ∷ 5 ∷ 6 ∷ 9 ∷ [] }
+    ∷ record { computed = hoursOfSession 25 1 ++ hoursOfSession 25 2; said = 1 ∷ 5 ∷ 6 ∷ 9 ∷ [] }
     -- N = 23: session 6 is 20-23
-    ∷ record { computed = hoursOf 23 6; said = 20 ∷ 23 ∷ [] }
+    ∷ record { computed = hoursOfSession 23 6; said = 20 ∷ 23 ∷ [] }
     -- one-hour model, no Wednesday: for hour 1 a bid at 1,080 and 1,289 is in, at 1,079 too early and at 1,290 too late
     ∷ record { computed = map (bidAt 1 1080) noWednesday ++ map (bidAt 1 1289) noWednesday; said = sixTimes 0 ++ sixTimes 0 }
     ∷ record { computed = map (bidAt 1 1079) noWednesday ++ map (bidAt 1 1290) noWednesday; said = sixTimes 16 ++ sixTimes 8 }
@@ -259,7 +290,7 @@ cases =
     ∷ record { computed = atMinutes (matchingTiming 25 7 4 2) (1694 ∷ 1695 ∷ []) ++ atMinutes (matchingTiming 23 7 4 2) (1574 ∷ 1575 ∷ []); said = 16 ∷ 0 ∷ 16 ∷ 0 ∷ [] }
     -- calls: a bid in the Wednesday hold is too early, for hour 1 and for a later one; at its end hour 1 is too late
     ∷ record {
-      computed = numbersOf (run (opening 24 3 .book) wednesdayHold .replies);
+      computed = numbersOf (run (opening 2015 6 3 .book) wednesdayHold .replies);
       said = 0 ∷ 0 ∷ 0 ∷ 0 ∷ 0 ∷ 0 ∷ 0 ∷ 100 ∷ 0 ∷ 0 ∷ 100 ∷ 0 ∷ 0 ∷ 0 ∷ 0 ∷ 16 ∷ 0 ∷ 0 ∷ 16 ∷ 0 ∷ 0 ∷ 16 ∷ 0 ∷ 0 ∷ 16 ∷ 0 ∷ 0 ∷ 8 ∷ 0 ∷ 0 ∷ 0 ∷ 1 ∷ 0 ∷ [];
     }
     -- an offer at 959 is too early; so is a bid at 1,079, also where it is short, all zero or without access, but 6 comes before 16

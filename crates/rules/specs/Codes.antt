@@ -3,12 +3,9 @@
 use Prim.Native.Nat.{ℕ, _+_, _-_, _*_, _%_}
 use mathlib.Core.Bool.{Bool, true, cond, _&&_, not}
 use mathlib.Core.List.{List, [], _∷_}
-use lib.Dec.{leb, ltb, eqb}
+use lib.Dec.{ltb, eqb}
 use lib.ListN.{length, getD, take}
-
--- from a to e
-unfoldable pub between : ℕ → ℕ → ℕ → Bool
-between a e x = leb a x && leb x e
+use Rattle.rules.specs.Basics.{between}
 
 -- the value of a character: 0-9, A-Z, "-"; 37 for what is none
 unfoldable pub charValue : ℕ → ℕ

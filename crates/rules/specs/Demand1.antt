@@ -21,9 +21,10 @@ abbrev pub None : (ℕ → Bool) → List ℕ → Type 0
 None f [] = Unit {0}
 None f (n ∷ ns) = (f n ≡ false) × None f ns
 
--- the numbers in the order in which they count: 01's, with 16 in 8's place, just before it (02, S-1), and without 14 (02, S-2)
+-- the numbers in the order in which they count: 01's, with 16 in 8's place, just before it (02, S-1), without 14 (02, S-2), and with 17 in 2's place
+-- (02, S-3)
 abbrev pub listed : List ℕ
-listed = 1 ∷ 2 ∷ 3 ∷ 4 ∷ 5 ∷ 6 ∷ 7 ∷ 16 ∷ 8 ∷ 9 ∷ 10 ∷ 11 ∷ 12 ∷ 13 ∷ 15 ∷ []
+listed = 1 ∷ 17 ∷ 3 ∷ 4 ∷ 5 ∷ 6 ∷ 7 ∷ 16 ∷ 8 ∷ 9 ∷ 10 ∷ 11 ∷ 12 ∷ 13 ∷ 15 ∷ []
 
 -- no number stands twice
 abbrev pub EachOnce : List ℕ → Type 0
@@ -46,7 +47,7 @@ pub record Demand1 : Type 0 where
   -- the calls of the list of demand 3
   pub calls : (b : Book) (c : Call) → First (refuses b c) (applied b c .reply .number)
   pub calls-kept : (b : Book) (c : Call) → isGrant (applied b c .reply) ≡ false → applied b c .book ≡ b
-  pub openings : (n day : ℕ) → NumberAlone (openingRefuses n day) (opening n day .reply)
+  pub openings : (y m d : ℕ) → NumberAlone (openingRefuses y m d) (opening y m d .reply)
   -- the reads
   pub left-of-directions : (b : Book) (d hour : ℕ) → NumberAlone (directionReadRefuses b d hour) (readDirection b d hour .reply)
   pub left-of-profiles : (b : Book) (p hour : ℕ) → NumberAlone (profileReadRefuses b p hour) (readProfile b p hour .reply)

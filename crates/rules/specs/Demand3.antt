@@ -8,10 +8,10 @@ use mathlib.Core.List.{List, [], _∷_, _++_}
 use lib.Dec.{eqb, leb, ltb}
 use lib.ListN.{length, getD}
 use Rattle.rules.specs.Basics.{noMw}
-use Rattle.rules.specs.Book.{Direction, Right, Book, ofProfile, right, directionLimit, pairLimit, partyLimit, profileLimit, rightLimit}
+use Rattle.rules.specs.Book.{Day, Direction, Right, Book, ofProfile, right, directionLimit, pairLimit, partyLimit, profileLimit, rightLimit}
 use Rattle.rules.specs.Calls.{Call, Bid, noDetails}
 use Rattle.rules.specs.Run.{run}
-use Rattle.rules.specs.Opening.{opening, dayHours}
+use Rattle.rules.specs.Opening.{opening, openedDay}
 use Rattle.rules.specs.Reads.{LeftReply, RightReply, readDirection, readProfile, readRight, readConfirmed}
 use Rattle.rules.specs.History.{Key, grantedCalls, grants, directionsOf, profilesOf, lastOffer, bidMw, grantedMw, leftMw, shortfallMw, rightsFrom, rightSum, pairsFrom, lastSide, confirmedBy}
 
@@ -48,8 +48,12 @@ pub record WithinLimits (b : Book) : Type 0 where
   pub rights : length (b .rights) ≤ rightLimit
   pub pairs : length (b .pairs) ≤ pairLimit
 
--- over the first book b and its count of hours n
-module _ (b : Book) (n : ℕ) (cs : List Call) where
+-- over the first book b and its day
+module _ (b : Book) (day : Day) (cs : List Call) where
+  -- the count of hours
+  abbrev n : ℕ
+  n = day .hours
+
   -- the calls that were granted
   abbrev pub granted : List Call
   granted = grantedCalls cs (run b cs .replies)
@@ -71,6 +75,8 @@ module _ (b : Book) (n : ℕ) (cs : List Call) where
   mwOf row hour = grantedMw n granted row hour
 
   pub record Holds : Type 0 where
+    -- the book keeps its day, with its date
+    pub the-day : run b cs .book .day ≡ day
     -- left and shortfall: the differences between offer and granted MW, 0 where negative
     pub left-of-direction : (d hour : ℕ)
         → readDirection (run b cs .book) d hour ≡ leftBy (length directions) n d hour (leftMw n granted d hour) (shortfallMw n granted d hour)
@@ -99,5 +105,5 @@ module _ (b : Book) (n : ℕ) (cs : List Call) where
     pub limits : WithinLimits (run b cs .book)
 
 -- the book that the opening returned, granted or refused
-abbrev pub Demand3 : ℕ → ℕ → List Call → Type 0
-Demand3 n day cs = Holds (opening n day .book) (dayHours n day) cs
+abbrev pub Demand3 : ℕ → ℕ → ℕ → List Call → Type 0
+Demand3 y m d cs = Holds (opening y m d .book) (openedDay y m d) cs

@@ -116,15 +116,14 @@ matchedAfter flags (Match time d session) = set flags (flag d session) 1
 unfoldable pub effect : Book → Call → Book
 effect b c =
     record {
-      hours = b .hours;
-      weekday = b .weekday;
+      day = b .day;
       started = b .started || isTimed c;
       clock = clockAfter (b .clock) c;
       directions = directionsAfter (b .directions) c;
       profiles = profilesAfter (b .profiles) c;
       parties = partiesAfter (b .parties) c;
       offered = offeredAfter (b .offered) c;
-      granted = grantedAfter (b .hours) (b .directions) (b .profiles) (b .granted) c;
+      granted = grantedAfter (b .day .hours) (b .directions) (b .profiles) (b .granted) c;
       rights = rightsAfter (b .directions) (b .rights) c;
       pairs = pairsAfter (b .pairs) c;
       matched = matchedAfter (b .matched) c;

@@ -1,4 +1,5 @@
 pub mod Basics
+pub mod Calendar
 pub mod Sessions
 pub mod Windows
 pub mod Codes
@@ -21,4 +22,5 @@ pub mod Demand3
 pub mod Shortages
 pub mod Timings
 pub mod Cuts
+pub mod Days
 pub mod Cases

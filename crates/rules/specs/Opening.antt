@@ -1,29 +1,32 @@
--- 01, Day and clock: the opening of a book.
+-- 01, Day and clock, and 02, S-3: a book is opened by date.
 -- Assumes nothing.
 use Prim.Native.Nat.{ℕ}
-use mathlib.Core.Bool.{Bool, false, cond, _||_, _&&_, not}
-use lib.Dec.{eqb, ltb}
-use Rattle.rules.specs.Book.{opened}
+use mathlib.Core.Bool.{Bool, false, cond, not}
+use lib.Dec.{eqb}
+use Rattle.rules.specs.Calendar.{isDate, weekdayOf, hoursOf}
+use Rattle.rules.specs.Book.{Day, NoDate, On, opened}
 use Rattle.rules.specs.Refusals.{order, firstOf}
 use Rattle.rules.specs.Run.{Step}
 
--- 2 day: another count of hours or weekday, or a Tuesday without 24 hours
-unfoldable pub dayRefused : ℕ → ℕ → Bool
-dayRefused n day = ltb n 23 || ltb 25 n || ltb day 1 || ltb 7 day || (eqb day 2 && not (eqb n 24))
+-- 17 date: it doesn't exist, or its year lies outside the cycle
+unfoldable pub openingRefuses : ℕ → ℕ → ℕ → ℕ → Bool
+openingRefuses y m d k = cond (eqb k 17) (not (isDate y m d)) false
 
-unfoldable pub openingRefuses : ℕ → ℕ → ℕ → Bool
-openingRefuses n day k = cond (eqb k 2) (dayRefused n day) false
+-- the day of a date: weekday and count of hours follow from it
+unfoldable pub dayOf : ℕ → ℕ → ℕ → Day
+dayOf y m d = record { date = On y m d; hours = hoursOf y m d; weekday = weekdayOf y m d }
 
--- the day of the book that an opening hands back: the 24-hour Monday where it is refused
-unfoldable pub dayHours : ℕ → ℕ → ℕ
-dayHours n day = cond (dayRefused n day) 24 n
+-- 01's Monday of 24 hours, which has no date
+unfoldable pub undatedMonday : Day
+undatedMonday = record { date = NoDate; hours = 24; weekday = 1 }
 
-unfoldable pub dayWeekday : ℕ → ℕ → ℕ
-dayWeekday n day = cond (dayRefused n day) 1 day
+-- the day of the book that an opening hands back: that Monday where it is refused
+unfoldable pub openedDay : ℕ → ℕ → ℕ → Day
+openedDay y m d = cond (isDate y m d) (dayOf y m d) undatedMonday
 
-unfoldable pub opening : ℕ → ℕ → Step
-opening n day =
+unfoldable pub opening : ℕ → ℕ → ℕ → Step
+opening y m d =
     record {
-      reply = record { number = firstOf (openingRefuses n day) order; first = 0; second = 0 };
-      book = opened (dayHours n day) (dayWeekday n day);
+      reply = record { number = firstOf (openingRefuses y m d) order; first = 0; second = 0 };
+      book = opened (openedDay y m d);
     }

@@ -21,9 +21,10 @@ use Rattle.rules.specs.declared.Timing.the-variants.{Early, Within, Late
 
 -- ---- the order
 
--- the order in which the conditions are asked: 01's, with 16 in 8's place, just before it (02, S-1), and without 14 (02, S-2)
+-- the order in which the conditions are asked: 01's, with 16 in 8's place, just before it (02, S-1), without 14 (02, S-2), and with 17 in the place of 2,
+-- which no longer occurs (02, S-3)
 unfoldable pub order : List ℕ
-order = 1 ∷ 2 ∷ 3 ∷ 4 ∷ 5 ∷ 6 ∷ 7 ∷ 16 ∷ 8 ∷ 9 ∷ 10 ∷ 11 ∷ 12 ∷ 13 ∷ 15 ∷ []
+order = 1 ∷ 17 ∷ 3 ∷ 4 ∷ 5 ∷ 6 ∷ 7 ∷ 16 ∷ 8 ∷ 9 ∷ 10 ∷ 11 ∷ 12 ∷ 13 ∷ 15 ∷ []
 
 -- the numbers before n
 unfoldable pub before : ℕ → List ℕ → List ℕ
@@ -86,10 +87,10 @@ abbrev pub rightUnknown : Book → ℕ → Bool
 rightUnknown b r = leb (length (b .rights)) r
 
 abbrev pub sessionUnknown : Book → ℕ → ℕ → Bool
-sessionUnknown b d session = not (sessionThere (b .hours) (modelOf b d) session)
+sessionUnknown b d session = not (sessionThere (b .day .hours) (modelOf b d) session)
 
 unfoldable pub hourUnknown : Book → ℕ → Bool
-hourUnknown b hour = ltb hour 1 || ltb (b .hours) hour
+hourUnknown b hour = ltb hour 1 || ltb (b .day .hours) hour
 
 -- for a profile: a bit of a direction that is not there
 unfoldable pub unknown : Book → Call → Bool
@@ -121,13 +122,13 @@ unfoldable pub timingOf : Book → Call → Timing
 timingOf b (AddDirection o i m) = Within
 timingOf b (AddProfile map) = Within
 timingOf b (AddParty code access) = Within
-timingOf b (OfferDirection time d hour mw) = offerTiming (b .hours) (b .weekday) (modelOf b d) hour time
-timingOf b (OfferProfile time p hour mw) = offerTiming (b .hours) (b .weekday) 1 hour time
-timingOf b (Bid time p d session mw) = bidTiming (b .hours) (b .weekday) (modelOf b d) session time
+timingOf b (OfferDirection time d hour mw) = offerTiming (b .day .hours) (b .day .weekday) (modelOf b d) hour time
+timingOf b (OfferProfile time p hour mw) = offerTiming (b .day .hours) (b .day .weekday) 1 hour time
+timingOf b (Bid time p d session mw) = bidTiming (b .day .hours) (b .day .weekday) (modelOf b d) session time
 timingOf b (Nominate time sender other r side mw) =
     let x : Right = right (b .rights) r in
-    nominationTiming (b .hours) (b .weekday) (modelOf b (x .direction)) (x .session) time
-timingOf b (Match time d session) = matchingTiming (b .hours) (b .weekday) (modelOf b d) session time
+    nominationTiming (b .day .hours) (b .day .weekday) (modelOf b (x .direction)) (x .session) time
+timingOf b (Match time d session) = matchingTiming (b .day .hours) (b .day .weekday) (modelOf b d) session time
 
 -- 16: before the opening, or a bid in the Wednesday hold
 abbrev pub tooEarly : Timing → Bool
@@ -145,7 +146,7 @@ tooLate Late = true
 
 -- MW above 0 for an hour that the session of direction d lacks
 unfoldable pub hoursLacking : Book → ℕ → ℕ → List ℕ → Bool
-hoursLacking b d session mw = anyAbove 0 (drop (hoursIn (b .hours) (modelOf b d) session) mw)
+hoursLacking b d session mw = anyAbove 0 (drop (hoursIn (b .day .hours) (modelOf b d) session) mw)
 
 unfoldable pub wrongHours : Book → Call → Bool
 wrongHours b (AddDirection o i m) = false
@@ -231,7 +232,7 @@ shortageOf b (AddProfile map) = nothingShort
 shortageOf b (AddParty code access) = nothingShort
 shortageOf b (OfferDirection time d hour mw) = nothingShort
 shortageOf b (OfferProfile time p hour mw) = nothingShort
-shortageOf b (Bid time p d session mw) = shortage b d (firstHour (b .hours) (modelOf b d) session) mw
+shortageOf b (Bid time p d session mw) = shortage b d (firstHour (b .day .hours) (modelOf b d) session) mw
 shortageOf b (Nominate time sender other r side mw) = nothingShort
 shortageOf b (Match time d session) = nothingShort
 

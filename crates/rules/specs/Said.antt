@@ -5,7 +5,7 @@ use Rattle.rules.specs.Calls.{Reply, noDetails}
 use Rattle.rules.specs.declared.CapacityOf.{CapacityOf}
 use Rattle.rules.specs.declared.CapacityOf.the-variants.{Direction, Profile}
 use Rattle.rules.specs.declared.Answer.{Answer}
-use Rattle.rules.specs.declared.Answer.the-variants.{Granted, Record, Day, Field, SetupShut, Clock, Unknown, Taken, TooEarly, TooLate, Hours, Access, Owner, Cycle, Full, Short}
+use Rattle.rules.specs.declared.Answer.the-variants.{Granted, Record, Date, Field, SetupShut, Clock, Unknown, Taken, TooEarly, TooLate, Hours, Access, Owner, Cycle, Full, Short}
 use Rattle.rules.specs.declared.ReplyNumbers.{ReplyNumbers}
 
 -- 0 for the direction, or 1 + the profile's number
@@ -17,7 +17,7 @@ capacityNumber (Profile p) = 1 + p
 abbrev pub said : Answer → Reply
 said (Granted n) = record { number = 0; first = n; second = 0 }
 said Record = noDetails 1
-said Day = noDetails 2
+said Date = noDetails 17
 said Field = noDetails 3
 said SetupShut = noDetails 4
 said Clock = noDetails 5

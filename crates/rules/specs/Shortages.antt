@@ -48,7 +48,7 @@ module _ (b : Book) (time p d session : ℕ) (mw : List ℕ) where
   reply = applied b bid .reply
 
   abbrev pub first : ℕ
-  first = firstHour (b .hours) (modelOf b d) session
+  first = firstHour (b .day .hours) (modelOf b d) session
 
   pub record ShortExactly : Type 0 where
     pub when-short : None (refuses b bid) (before 15 order) → ShortHour b d first mw → reply .number ≡ 15

@@ -17,7 +17,7 @@ pub record EarlyOrLate : Type 0 where
   -- a matching is never late
   pub matching-never-late : (b : Book) (time d session : ℕ) → refuses b (Match time d session) 8 ≡ false
   -- a bid in the Wednesday hold is too early, whatever its session
-  pub held-is-early : (b : Book) (time p d session : ℕ) (mw : List ℕ) → held (b .weekday) time ≡ true → refuses b (Bid time p d session mw) 16 ≡ true
+  pub held-is-early : (b : Book) (time p d session : ℕ) (mw : List ℕ) → held (b .day .weekday) time ≡ true → refuses b (Bid time p d session mw) 16 ≡ true
   -- on a day of 01, which has 23 hours or more, each minute of the hold is before the close of any session's bids: no bid is in the hold and late
   pub held-before-close : (n weekday model session time : ℕ) → 23 ≤ n → sessionThere n model session ≡ true → held weekday time ≡ true
       → time < bidsClose weekday model (firstHour n model session)

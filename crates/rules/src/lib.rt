@@ -31,7 +31,7 @@ pub enum CapacityOf {
 pub enum Answer {
     Granted(u32),
     Record,
-    Day,
+    Date,
     Field,
     SetupShut,
     Clock,

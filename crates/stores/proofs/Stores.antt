@@ -3,18 +3,20 @@
 use Prim.Native.Nat.{ℕ, _+_, _*_, _≤_, _<_}
 use mathlib.Core.Path.{_≡_, refl, sym, ap, _∙_}
 use mathlib.Core.Logic.{_≢_}
-use mathlib.Core.Bool.{cond}
+use mathlib.Core.Bool.{true, cond}
 use mathlib.Core.List.{List, [], _∷_, _++_}
 use native.Mathlib.Nat.{zero-add}
 use native.Mathlib.Omega.{arith}
 use lib.Dec.{eqb, lit≤, lit<}
 use lib.ListN.{getD, set, length, length-set, replicate, length-replicate, getD-replicate}
 use lib.Seq.{getD-set-same, getD-set-other, ext-getD}
-use Rattle.rules.specs.Book.{opened}
-use Rattle.cells.specs.Layout.{CELLS, DIRECTIONS, PROFILES, PARTIES, OFFERED, GRANTED, MATCHED, RIGHTS, PAIRS}
+use Rattle.rules.specs.Basics.{between}
+use Rattle.rules.specs.Calendar.{isDate}
+use Rattle.rules.specs.Book.{NoDate, On, opened}
+use Rattle.cells.specs.Layout.{CELLS, YEAR, MONTH, DAY, HOURS, WEEKDAY, CLOCK, STARTED, DIRECTIONS, PROFILES, PARTIES, OFFERED, GRANTED, MATCHED, RIGHTS, PAIRS}
 use Rattle.cells.specs.Loops.{rows}
-use Rattle.cells.specs.View.{cell, cellFrom, part, dayHoursIn, weekdayIn, directionsIn, profilesIn, partiesIn, offeredIn, grantedIn, matchedIn, rightsIn, pairsIn, bookOf}
-use Rattle.stores.specs.Stores.{clocked, emptied}
+use Rattle.cells.specs.View.{cell, cellFrom, part, dateIn, dayHoursIn, dayIn, directionsIn, profilesIn, partiesIn, offeredIn, grantedIn, matchedIn, rightsIn, pairsIn, bookOf}
+use Rattle.stores.specs.Stores.{clocked, emptied, dated}
 use Rattle.cells.proofs.Rows.{rows-length, rows-set}
 use Rattle.cells.proofs.Views.{part-at}
 use Rattle.cells.proofs.Regions.{Within, within-more, only-offered, only-matched, only-clock}
@@ -62,15 +64,15 @@ matched-set b i v l u =
 pub clock-set : (b : List ℕ) (time : ℕ) → length b ≡ CELLS → bookOf (clocked time b) ≡ withClock (bookOf b) time
 unfolding bookOf
 clock-set b time u =
-    let w = within-more (set-within b 2 time 2 4 (lit≤ tt) (lit< tt)) (set-within (set b 2 time) 3 1 2 4 (lit≤ tt) (lit< tt)) in
+    let w = within-more (set-within b CLOCK time CLOCK DIRECTIONS (lit≤ tt) (lit< tt)) (set-within (set b CLOCK time) STARTED 1 CLOCK DIRECTIONS (lit≤ tt) (lit< tt)) in
     only-clock b (clocked time b) w
-    ∙ rw (getD-set-same (set b 2 time) 3 1 0 (simp length-set (omega arith)), getD-set-other (set b 2 time) 3 2 1 0 (λ e. omega arith), getD-set-same b 2 time 0 (omega arith))
+    ∙ rw (getD-set-same (set b CLOCK time) STARTED 1 0 (simp length-set (omega arith)), getD-set-other (set b CLOCK time) STARTED CLOCK 1 0 (λ e. omega arith), getD-set-same b CLOCK time 0 (omega arith))
 
 -- ---- a book with no entries
 
--- all cells but the first two are 0
+-- all cells after those of the day are 0
 abbrev Clear : List ℕ → Type 0
-Clear b = (i : ℕ) → 2 ≤ i → i < CELLS → cell b i ≡ 0
+Clear b = (i : ℕ) → CLOCK ≤ i → i < CELLS → cell b i ≡ 0
 
 part-clear : (b : List ℕ) (at n : ℕ) → ((i : ℕ) → i < n → cell b (at + i) ≡ 0) → part b at n ≡ replicate n 0
 unfolding part cellFrom
@@ -82,12 +84,12 @@ part-none : (b : List ℕ) (at : ℕ) → part b at 0 ≡ []
 unfolding part rows
 part-none b at = refl
 
-clear-book : (b : List ℕ) → Clear b → bookOf b ≡ opened (dayHoursIn b) (weekdayIn b)
+clear-book : (b : List ℕ) → Clear b → bookOf b ≡ opened (dayIn b)
 unfolding bookOf opened directionsIn profilesIn partiesIn rightsIn pairsIn offeredIn grantedIn matchedIn rows
 clear-book b h =
     rw (
-      h 2 (lit≤ tt) (lit< tt),
-      h 3 (lit≤ tt) (lit< tt),
+      h CLOCK (lit≤ tt) (lit< tt),
+      h STARTED (lit≤ tt) (lit< tt),
       h DIRECTIONS (lit≤ tt) (lit< tt),
       h PROFILES (lit≤ tt) (lit< tt),
       h PARTIES (lit≤ tt) (lit< tt),
@@ -99,13 +101,30 @@ clear-book b h =
       part-clear b MATCHED 600 (λ i l. h (MATCHED + i) (omega arith) (omega arith)),
     )
 
-emptied-clear : (n day : ℕ) → Clear (emptied n day)
-unfolding emptied
-emptied-clear n day i l u =
-    getD-set-other (set (replicate CELLS 0) 0 n) 1 i day 0 (λ e. omega arith)
-    ∙ getD-set-other (replicate CELLS 0) 0 i n 0 (λ e. omega arith)
-    ∙ getD-replicate CELLS i 0 0 u
+clear-set : (b : List ℕ) (at v : ℕ) → at < CLOCK → Clear b → Clear (set b at v)
+clear-set b at v l h i p q = getD-set-other b at i v 0 (λ e. omega arith) ∙ h i p q
 
-pub emptied-book : (n day : ℕ) → bookOf (emptied n day) ≡ opened (cond (eqb n 23) 23 (cond (eqb n 25) 25 24)) day
-unfolding emptied dayHoursIn
-emptied-book n day = clear-book (emptied n day) (emptied-clear n day)
+emptied-clear : (n weekday : ℕ) → Clear (emptied n weekday)
+unfolding emptied
+emptied-clear n weekday =
+    clear-set (set (replicate CELLS 0) HOURS n) WEEKDAY weekday (lit< tt)
+    (clear-set (replicate CELLS 0) HOURS n (lit< tt) (λ i p q. getD-replicate CELLS i 0 0 q))
+
+dated-clear : (y m d : ℕ) (b : List ℕ) → Clear b → Clear (dated y m d b)
+unfolding dated
+dated-clear y m d b h =
+    clear-set (set (set b YEAR y) MONTH m) DAY d (lit< tt) (clear-set (set b YEAR y) MONTH m (lit< tt) (clear-set b YEAR y (lit< tt) h))
+
+-- the count of hours as it is read
+abbrev pub hoursRead : ℕ → ℕ
+hoursRead n = cond (eqb n 23) 23 (cond (eqb n 25) 25 24)
+
+-- the year 0 is no date
+pub emptied-book : (n weekday : ℕ) → bookOf (emptied n weekday) ≡ opened (record { date = NoDate; hours = hoursRead n; weekday = weekday })
+unfolding emptied dateIn dayHoursIn isDate between
+emptied-book n weekday = clear-book (emptied n weekday) (emptied-clear n weekday)
+
+pub dated-book : (y m d n weekday : ℕ) → isDate y m d ≡ true
+    → bookOf (dated y m d (emptied n weekday)) ≡ opened (record { date = On y m d; hours = hoursRead n; weekday = weekday })
+unfolding dated emptied dateIn dayHoursIn
+dated-book y m d n weekday e = clear-book (dated y m d (emptied n weekday)) (dated-clear y m d (emptied n weekday) (emptied-clear n weekday)) ∙ rw e

@@ -4,15 +4,19 @@ use Prim.Native.Nat.{ℕ, _+_, _*_}
 use mathlib.Core.List.{List}
 use lib.ListN.{length, set, replicate}
 use lib.Seq.{sets}
-use Rattle.cells.specs.Layout.{CELLS, HOURS, WEEKDAY, CLOCK, STARTED}
+use Rattle.cells.specs.Layout.{CELLS, YEAR, MONTH, DAY, HOURS, WEEKDAY, CLOCK, STARTED}
 
 -- the time of a granted timed call, which shuts set-up
 abbrev pub clocked : ℕ → List ℕ → List ℕ
 clocked time b = set (set b CLOCK time) STARTED 1
 
--- an empty book of a day
+-- an empty book of a day without a date
 unfoldable pub emptied : ℕ → ℕ → List ℕ
-emptied n day = set (set (replicate CELLS 0) HOURS n) WEEKDAY day
+emptied n weekday = set (set (replicate CELLS 0) HOURS n) WEEKDAY weekday
+
+-- the date of the day
+unfoldable pub dated : ℕ → ℕ → ℕ → List ℕ → List ℕ
+dated y m d b = set (set (set b YEAR y) MONTH m) DAY d
 
 -- a table with the count n, and a row more
 unfoldable pub withRow : ℕ → ℕ → List ℕ → List ℕ → List ℕ

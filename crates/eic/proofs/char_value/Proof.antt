@@ -5,7 +5,8 @@ use mathlib.Core.Path.{_≡_, sym}
 use native.Mathlib.Omega.{arith}
 use borrow.Author.Needs.{needs}
 use borrow.Author.Tests.{le-leb, lt-leb, ne-eqb}
-use Rattle.rules.specs.Codes.{charValue, between}
+use Rattle.rules.specs.Basics.{between}
+use Rattle.rules.specs.Codes.{charValue}
 use Rattle.eic.specs.Chars.{Reads}
 use Rattle.eic.specs.declared.CharValue.the-variants.{Is, Not}
 use Rattle.eic.proofs.char_value.Statement.{statement}
