@@ -1,17 +1,17 @@
 -- An opening's promise from what the calendar says of its date.
 -- Assumes nothing.
 use Prim.Native.Nat.{ℕ}
-use mathlib.Core.Path.{_≡_, ap, _∙_}
+use mathlib.Core.Path.{_≡_, _∙_}
 use mathlib.Core.Bool.{true, false, cond}
 use mathlib.Core.Logic.{_⊎_, inl, inr}
+use Rattle.rules.specs.Basics.{between}
 use Rattle.rules.specs.Calendar.{isDate, weekdayOf, hoursOf}
-use Rattle.rules.specs.Book.{On, opened}
 use Rattle.rules.specs.Refusals.{order, firstOf}
 use Rattle.rules.specs.Opening.{openingRefuses, dayOf, undatedMonday, openedDay, opening}
 use Rattle.rules.specs.declared.Answer.the-variants.{Granted, Date}
 use Rattle.rules.proofs.Days.{hours-known}
-use Rattle.stores.specs.Stores.{emptied, dated}
-use Rattle.stores.proofs.Stores.{hoursRead, emptied-book, dated-book}
+use Rattle.stores.specs.Stores.{emptied}
+use Rattle.stores.proofs.Stores.{hoursRead, emptied-book}
 use Rattle.answers.specs.Promises.{Opens}
 
 -- the hours of a date are read as they are stored
@@ -20,19 +20,19 @@ hours-read (inl e) = rw e
 hours-read (inr (inl e)) = rw e
 hours-read (inr (inr e)) = rw e
 
-pub opens-refused : (y m d : ℕ) → isDate y m d ≡ false → Opens y m d Date (emptied 24 1)
-unfolding opening openingRefuses openedDay undatedMonday firstOf order
-opens-refused y m d e = record { reply = rw e; book = rw e (emptied-book 24 1) }
+pub opens-refused : (y m d : ℕ) → isDate y m d ≡ false → Opens y m d Date (emptied 0 0 0 24 1)
+unfolding opening openingRefuses openedDay undatedMonday firstOf order isDate between
+opens-refused y m d e = record { reply = rw e; book = rw e (emptied-book 0 0 0 24 1) }
 
 -- with the hours and the weekday that the calendar's functions answer for a date
 pub opens-granted : (y m d n weekday : ℕ) → isDate y m d ≡ true → n ≡ cond (isDate y m d) (hoursOf y m d) 0 → weekday ≡ cond (isDate y m d) (weekdayOf y m d) 0
-    → Opens y m d (Granted 0) (dated y m d (emptied n weekday))
+    → Opens y m d (Granted 0) (emptied y m d n weekday)
 unfolding opening openingRefuses openedDay dayOf firstOf order
 opens-granted y m d n weekday e p q =
     record {
       reply = rw e;
       book =
           rw (p, q, e)
-          (dated-book y m d (hoursOf y m d) (weekdayOf y m d) e
-          ∙ ap (λ (x : ℕ). opened (record { date = On y m d; hours = x; weekday = weekdayOf y m d })) (hours-read (hours-known y m d)));
+          (emptied-book y m d (hoursOf y m d) (weekdayOf y m d)
+          ∙ rw (e, hours-read (hours-known y m d)));
     }

@@ -8,12 +8,11 @@ pub fn open_day(book: &mut Book, year: u16, month: u8, day: u8) -> Answer
     ensures { λ r. ⌜ Opens year month day r (now (book .exit)) ⌝ }
 {
     if !calendar::is_date(year, month, day) {
-        stores::clear(book, 24, 1);
+        stores::clear(book, 0, 0, 0, 24, 1);
         return Answer::Date;
     }
     let hours = calendar::hours(year, month, day);
     let weekday = calendar::weekday(year, month, day);
-    stores::clear(book, hours, weekday);
-    stores::set_date(book, year, month, day);
+    stores::clear(book, year, month, day, hours, weekday);
     Answer::Granted(0)
 }

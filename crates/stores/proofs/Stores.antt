@@ -3,20 +3,19 @@
 use Prim.Native.Nat.{ℕ, _+_, _*_, _≤_, _<_}
 use mathlib.Core.Path.{_≡_, refl, sym, ap, _∙_}
 use mathlib.Core.Logic.{_≢_}
-use mathlib.Core.Bool.{true, cond}
+use mathlib.Core.Bool.{cond}
 use mathlib.Core.List.{List, [], _∷_, _++_}
 use native.Mathlib.Nat.{zero-add}
 use native.Mathlib.Omega.{arith}
 use lib.Dec.{eqb, lit≤, lit<}
 use lib.ListN.{getD, set, length, length-set, replicate, length-replicate, getD-replicate}
 use lib.Seq.{getD-set-same, getD-set-other, ext-getD}
-use Rattle.rules.specs.Basics.{between}
 use Rattle.rules.specs.Calendar.{isDate}
-use Rattle.rules.specs.Book.{NoDate, On, opened}
+use Rattle.rules.specs.Book.{BookDate, NoDate, On, opened}
 use Rattle.cells.specs.Layout.{CELLS, YEAR, MONTH, DAY, HOURS, WEEKDAY, CLOCK, STARTED, DIRECTIONS, PROFILES, PARTIES, OFFERED, GRANTED, MATCHED, RIGHTS, PAIRS}
 use Rattle.cells.specs.Loops.{rows}
 use Rattle.cells.specs.View.{cell, cellFrom, part, dateIn, dayHoursIn, dayIn, directionsIn, profilesIn, partiesIn, offeredIn, grantedIn, matchedIn, rightsIn, pairsIn, bookOf}
-use Rattle.stores.specs.Stores.{clocked, emptied, dated}
+use Rattle.stores.specs.Stores.{clocked, emptied}
 use Rattle.cells.proofs.Rows.{rows-length, rows-set}
 use Rattle.cells.proofs.Views.{part-at}
 use Rattle.cells.proofs.Regions.{Within, within-more, only-offered, only-matched, only-clock}
@@ -104,27 +103,22 @@ clear-book b h =
 clear-set : (b : List ℕ) (at v : ℕ) → at < CLOCK → Clear b → Clear (set b at v)
 clear-set b at v l h i p q = getD-set-other b at i v 0 (λ e. omega arith) ∙ h i p q
 
-emptied-clear : (n weekday : ℕ) → Clear (emptied n weekday)
+emptied-clear : (y m d n weekday : ℕ) → Clear (emptied y m d n weekday)
 unfolding emptied
-emptied-clear n weekday =
-    clear-set (set (replicate CELLS 0) HOURS n) WEEKDAY weekday (lit< tt)
-    (clear-set (replicate CELLS 0) HOURS n (lit< tt) (λ i p q. getD-replicate CELLS i 0 0 q))
+emptied-clear y m d n weekday =
+    let b : List ℕ = replicate CELLS 0 in
+    clear-set (set (set (set (set b YEAR y) MONTH m) DAY d) HOURS n) WEEKDAY weekday (lit< tt)
+    (clear-set (set (set (set b YEAR y) MONTH m) DAY d) HOURS n (lit< tt)
+    (clear-set (set (set b YEAR y) MONTH m) DAY d (lit< tt)
+    (clear-set (set b YEAR y) MONTH m (lit< tt) (clear-set b YEAR y (lit< tt) (λ i p q. getD-replicate CELLS i 0 0 q)))))
 
-dated-clear : (y m d : ℕ) (b : List ℕ) → Clear b → Clear (dated y m d b)
-unfolding dated
-dated-clear y m d b h =
-    clear-set (set (set b YEAR y) MONTH m) DAY d (lit< tt) (clear-set (set b YEAR y) MONTH m (lit< tt) (clear-set b YEAR y (lit< tt) h))
+-- the date and the count of hours as they are read
+abbrev pub dateRead : ℕ → ℕ → ℕ → BookDate
+dateRead y m d = cond (isDate y m d) (On y m d) NoDate
 
--- the count of hours as it is read
 abbrev pub hoursRead : ℕ → ℕ
 hoursRead n = cond (eqb n 23) 23 (cond (eqb n 25) 25 24)
 
--- the year 0 is no date
-pub emptied-book : (n weekday : ℕ) → bookOf (emptied n weekday) ≡ opened (record { date = NoDate; hours = hoursRead n; weekday = weekday })
-unfolding emptied dateIn dayHoursIn isDate between
-emptied-book n weekday = clear-book (emptied n weekday) (emptied-clear n weekday)
-
-pub dated-book : (y m d n weekday : ℕ) → isDate y m d ≡ true
-    → bookOf (dated y m d (emptied n weekday)) ≡ opened (record { date = On y m d; hours = hoursRead n; weekday = weekday })
-unfolding dated emptied dateIn dayHoursIn
-dated-book y m d n weekday e = clear-book (dated y m d (emptied n weekday)) (dated-clear y m d (emptied n weekday) (emptied-clear n weekday)) ∙ rw e
+pub emptied-book : (y m d n weekday : ℕ) → bookOf (emptied y m d n weekday) ≡ opened (record { date = dateRead y m d; hours = hoursRead n; weekday = weekday })
+unfolding emptied dateIn dayHoursIn
+emptied-book y m d n weekday = clear-book (emptied y m d n weekday) (emptied-clear y m d n weekday)

@@ -10,13 +10,9 @@ use Rattle.cells.specs.Layout.{CELLS, YEAR, MONTH, DAY, HOURS, WEEKDAY, CLOCK, 
 abbrev pub clocked : ℕ → List ℕ → List ℕ
 clocked time b = set (set b CLOCK time) STARTED 1
 
--- an empty book of a day without a date
-unfoldable pub emptied : ℕ → ℕ → List ℕ
-emptied n weekday = set (set (replicate CELLS 0) HOURS n) WEEKDAY weekday
-
--- the date of the day
-unfoldable pub dated : ℕ → ℕ → ℕ → List ℕ → List ℕ
-dated y m d b = set (set (set b YEAR y) MONTH m) DAY d
+-- an empty book of a day: year, month and day of its date, count of hours, weekday
+unfoldable pub emptied : ℕ → ℕ → ℕ → ℕ → ℕ → List ℕ
+emptied y m d n weekday = set (set (set (set (set (replicate CELLS 0) YEAR y) MONTH m) DAY d) HOURS n) WEEKDAY weekday
 
 -- a table with the count n, and a row more
 unfoldable pub withRow : ℕ → ℕ → List ℕ → List ℕ → List ℕ

@@ -6,7 +6,7 @@ ghost use lib.Seq.{sets};
 ghost use Rattle.rules.specs.Book.{place, flag, directionLimit};
 ghost use Rattle.cells.specs.Layout.{CELLS, OFFERED, MATCHED};
 ghost use Rattle.cells.specs.View.{InHour};
-ghost use Rattle.stores.specs.Stores.{clocked, emptied, dated, withRow};
+ghost use Rattle.stores.specs.Stores.{clocked, emptied, withRow};
 use cells::Book;
 use rules::Hour;
 use rules::Session;
@@ -35,22 +35,16 @@ pub fn set_clock(book: &mut Book, time: u32)
     book[cells::STARTED] = 1;
 }
 
-// An empty book of a day, without a date.
-pub fn clear(book: &mut Book, hours: u8, weekday: u8)
-    ensures { λ r. ⌜ now (book .exit) ≡ emptied hours weekday ⌝ }
+// An empty book of a day. Without a date year, month and day are 0.
+pub fn clear(book: &mut Book, year: u16, month: u8, day: u8, hours: u8, weekday: u8)
+    ensures { λ r. ⌜ now (book .exit) ≡ emptied year month day hours weekday ⌝ }
 {
     *book = [0u32; cells::CELLS];
-    book[cells::HOURS] = hours as u32;
-    book[cells::WEEKDAY] = weekday as u32;
-}
-
-// The date of a book's day.
-pub fn set_date(book: &mut Book, year: u16, month: u8, day: u8)
-    ensures { λ r. ⌜ now (book .exit) ≡ dated year month day (now (book .entry)) ⌝ }
-{
     book[cells::YEAR] = year as u32;
     book[cells::MONTH] = month as u32;
     book[cells::DAY] = day as u32;
+    book[cells::HOURS] = hours as u32;
+    book[cells::WEEKDAY] = weekday as u32;
 }
 
 // Cells from `at` on.

@@ -14,12 +14,12 @@ returns c =
 
 returns-2 : tie.Need-returns-2
 returns-2 c =
-    let day = c .before .before .before .before in
+    let day = c .before .before in
     let asked = day .before .before .before .is-date in
-    rw (c .set-date .ensures, c .before .before .clear2 .ensures)
+    rw (c .clear2 .ensures)
     (opens-granted _ _ _ _ _ (sym (asked .ensures) ∙ not-false (asked .result) (day .before .before .if1 .left)) (day .before .hours .ensures) (day .weekday .ensures))
 
 pub open-day-spec : {M : Type 1} → statement M
 open-day-spec =
     tie.close
-    (tie.spec (λ c κs. search needs) (λ c κs. search needs) returns (λ c κs. search needs) (λ c κs. search needs) (λ c κs. search needs) (λ c κs. search needs) returns-2)
+    (tie.spec (λ c κs. search needs) (λ c κs. search needs) returns (λ c κs. search needs) (λ c κs. search needs) (λ c κs. search needs) returns-2)
