@@ -58,6 +58,7 @@ program-demand3 year month date r first last cs rs o k =
     let w = rw (f .replies, f .book) at (d .without-refused) in
     record {
       the-day = rw (f .book) at (d .the-day);
+      known-day = rw (f .book) at (d .known-day);
       left-of-direction = λ e hour x p. p .reply ∙ rw (f .replies, f .book) at (d .left-of-direction e hour);
       left-of-profile = λ e hour x p. p .reply ∙ rw (f .replies, f .book) at (d .left-of-profile e hour);
       direction-adds-up = λ e hour x p l m q. rw (← p .reply) at (rw (f .replies, f .book) at (d .direction-adds-up e hour (rw (f .replies) l) m q));

@@ -13,6 +13,7 @@ use Rattle.rules.specs.Calls.{Call, Bid}
 use Rattle.rules.specs.Said.{said}
 use Rattle.rules.specs.Opening.{openedDay}
 use Rattle.rules.specs.History.{Key, grantedCalls, grants, directionsOf, profilesOf, lastOffer, grantedMw, leftMw, shortfallMw, rightsFrom, rightSum, pairsFrom, lastSide, confirmedBy}
+use Rattle.rules.specs.Days.{KnownDay}
 use Rattle.rules.specs.Demand3.{leftBy, rightReply, BidFits}
 use Rattle.rules.specs.declared.Answer.{Answer}
 use Rattle.cells.specs.View.{bookOf}
@@ -56,8 +57,9 @@ module _ (day : Day) (first : List ℕ) (cs : List Call) (rs : List Answer) (las
   mwOf row hour = grantedMw n granted row hour
 
   pub record DayHolds : Type 0 where
-    -- the book keeps its day, with its date
+    -- the book keeps its day, with its date, and it is one that 01 knows
     pub the-day : bookOf last .day ≡ day
+    pub known-day : KnownDay (bookOf last .day)
     -- left and shortfall: the differences between offer and granted MW, 0 where negative
     pub left-of-direction : (d hour : ℕ) (x : LeftRead) → ReadsDirection last d hour x
         → saidLeft x ≡ leftBy (length directions) n d hour (leftMw n granted d hour) (shortfallMw n granted d hour)

@@ -1,14 +1,14 @@
 -- The days of the calendar follow each other, a last Sunday is what its name says, and an opening's day is one that 01 knows.
 -- Assumes nothing.
 use Prim.Native.Nat.{ℕ, suc, _+_, _-_, _%_, _≤_}
-use mathlib.Core.Path.{_≡_, refl, ap, sym, _∙_}
+use mathlib.Core.Path.{_≡_, refl, ap, _∙_}
 use mathlib.Core.Bool.{Bool, true, false, cond, _&&_, _||_}
 use mathlib.Core.Logic.{_⊎_, inl, inr}
 use native.Mathlib.Omega.{arith}
 use lib.Dec.{eqb, lit≤}
 use borrow.Author.Tests.{eqb-true}
 use Rattle.rules.specs.Calendar.{leap, daysIn, isDate, daysOfYears, daysOfMonths, daysSince, weekdayOf, lastSunday, hoursOf}
-use Rattle.rules.specs.Book.{Day, opened}
+use Rattle.rules.specs.Book.{opened}
 use Rattle.rules.specs.Opening.{dayOf, undatedMonday, openedDay, opening}
 use Rattle.rules.specs.Days.{DaysInOrder, LastSunday, LastSundays, KnownDay, OpenedDays}
 use Rattle.rules.proofs.Bools.{and-left, and-right}
@@ -119,9 +119,9 @@ known-monday : KnownDay undatedMonday
 unfolding undatedMonday
 known-monday = record { hours-known = inr (inl refl); weekday-from = lit≤ tt; weekday-to = lit≤ tt; tuesday = λ e. refl }
 
-known : (y m d : ℕ) → KnownDay (openedDay y m d)
+pub known-day : (y m d : ℕ) → KnownDay (openedDay y m d)
 unfolding openedDay
-known y m d = go (isDate y m d)
+known-day y m d = go (isDate y m d)
   where
     go : (t : Bool) → KnownDay (cond t (dayOf y m d) undatedMonday)
     go true = known-date y m d
@@ -129,13 +129,10 @@ known y m d = go (isDate y m d)
 
 pub opened-days : OpenedDays
 unfolding opening opened openedDay dayOf undatedMonday
-opened-days = record { known = known; dated = λ y m d e. rw e; undated = λ y m d e. rw e }
+opened-days = record { known = known-day; dated = λ y m d e. rw e; undated = λ y m d e. rw e }
 
 -- a known count of hours is from 23 to 25
-pub opened-hours : (y m d : ℕ) → (23 ≤ openedDay y m d .hours) × (openedDay y m d .hours ≤ 25)
-opened-hours y m d = go (known y m d .hours-known)
-  where
-    go : {n : ℕ} → (n ≡ 23) ⊎ ((n ≡ 24) ⊎ (n ≡ 25)) → (23 ≤ n) × (n ≤ 25)
-    go (inl e) = (omega arith, omega arith)
-    go (inr (inl e)) = (omega arith, omega arith)
-    go (inr (inr e)) = (omega arith, omega arith)
+pub hours-within : {n : ℕ} → (n ≡ 23) ⊎ ((n ≡ 24) ⊎ (n ≡ 25)) → (23 ≤ n) × (n ≤ 25)
+hours-within (inl e) = (omega arith, omega arith)
+hours-within (inr (inl e)) = (omega arith, omega arith)
+hours-within (inr (inr e)) = (omega arith, omega arith)

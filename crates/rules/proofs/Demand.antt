@@ -14,11 +14,12 @@ use Rattle.rules.specs.Calls.{Call, noDetails}
 use Rattle.rules.specs.Refusals.{order, firstOf, hourUnknown}
 use Rattle.rules.specs.Run.{run}
 use Rattle.rules.specs.Opening.{opening, openedDay}
+use Rattle.rules.specs.Days.{KnownDay}
 use Rattle.rules.specs.Reads.{leftReply, directionReadRefuses, readDirection, profileReadRefuses, readProfile, rightReadRefuses, readRight}
 use Rattle.rules.specs.History.{directionsOf, profilesOf, lastOffer, grantedMw, leftMw, shortfallMw}
 use Rattle.rules.specs.Demand3.{leftBy, rightReply, Holds, Demand3}
 use Rattle.rules.proofs.Bools.{or-left, or-right}
-use Rattle.rules.proofs.Days.{opened-hours}
+use Rattle.rules.proofs.Days.{known-day, hours-within}
 use Rattle.rules.proofs.Histories.{history, struck}
 use Rattle.rules.proofs.Books.{limits}
 use Rattle.rules.proofs.Capacity.{Balance, balance-run, day-run, directions-run, profiles-run, sound-run}
@@ -64,9 +65,15 @@ right-read b r = refl
 
 -- ---- a book that was opened
 
-module _ (day : Day) (f : 23 ≤ day .hours) (t : day .hours ≤ 25) (cs : List Call) where
+module _ (day : Day) (known : KnownDay day) (cs : List Call) where
   abbrev n : ℕ
   n = day .hours
+
+  f : 23 ≤ n
+  f = hours-within (known .hours-known) .0
+
+  t : n ≤ 25
+  t = hours-within (known .hours-known) .1
 
   abbrev end : Book
   end = run (opened day) cs .book
@@ -101,6 +108,7 @@ module _ (day : Day) (f : 23 ≤ day .hours) (t : day .hours ≤ 25) (cs : List 
   holds =
       record {
         the-day = day-run day cs;
+        known-day = rw (day-run day cs) known;
         left-of-direction = direction-is;
         left-of-profile = profile-is;
         direction-adds-up = λ d hour l p q. rw (direction-is d hour) (adds-up _ n d hour _ _ l p q);
@@ -123,4 +131,4 @@ module _ (day : Day) (f : 23 ≤ day .hours) (t : day .hours ≤ 25) (cs : List 
 -- demand 3
 pub demand3 : (y m d : ℕ) (cs : List Call) → Demand3 y m d cs
 unfolding opening
-demand3 y m d cs = holds (openedDay y m d) (opened-hours y m d .0) (opened-hours y m d .1) cs
+demand3 y m d cs = holds (openedDay y m d) (known-day y m d) cs

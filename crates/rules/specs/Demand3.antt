@@ -12,6 +12,7 @@ use Rattle.rules.specs.Book.{Day, Direction, Right, Book, ofProfile, rig
 use Rattle.rules.specs.Calls.{Call, Bid, noDetails}
 use Rattle.rules.specs.Run.{run}
 use Rattle.rules.specs.Opening.{opening, openedDay}
+use Rattle.rules.specs.Days.{KnownDay}
 use Rattle.rules.specs.Reads.{LeftReply, RightReply, readDirection, readProfile, readRight, readConfirmed}
 use Rattle.rules.specs.History.{Key, grantedCalls, grants, directionsOf, profilesOf, lastOffer, bidMw, grantedMw, leftMw, shortfallMw, rightsFrom, rightSum, pairsFrom, lastSide, confirmedBy}
 
@@ -75,8 +76,9 @@ module _ (b : Book) (day : Day) (cs : List Call) where
   mwOf row hour = grantedMw n granted row hour
 
   pub record Holds : Type 0 where
-    -- the book keeps its day, with its date
+    -- the book keeps its day, with its date, and it is one that 01 knows
     pub the-day : run b cs .book .day ≡ day
+    pub known-day : KnownDay (run b cs .book .day)
     -- left and shortfall: the differences between offer and granted MW, 0 where negative
     pub left-of-direction : (d hour : ℕ)
         → readDirection (run b cs .book) d hour ≡ leftBy (length directions) n d hour (leftMw n granted d hour) (shortfallMw n granted d hour)

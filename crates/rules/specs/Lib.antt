@@ -17,10 +17,10 @@ pub mod Opening
 pub mod Reads
 pub mod Records
 pub mod History
+pub mod Days
 pub mod Demand1
 pub mod Demand3
 pub mod Shortages
 pub mod Timings
 pub mod Cuts
-pub mod Days
 pub mod Cases
