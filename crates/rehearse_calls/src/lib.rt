@@ -35,11 +35,12 @@ fn four(given: [u64; 10], place: usize) -> u32
 // ---- opening
 
 pub fn open(book: &mut Book, given: [u64; 10]) -> Answer
-    ensures { λ r. ⌜ Opens (byteAt given 0) (byteAt given 1) r (now (book .exit)) ⌝ }
+    ensures { λ r. ⌜ Opens (twoAt given 0) (byteAt given 1) (byteAt given 2) r (now (book .exit)) ⌝ }
 {
-    let hours = byte(given, 0);
-    let weekday = byte(given, 1);
-    daybook::open_day(book, hours, weekday)
+    let year = two(given, 0);
+    let month = byte(given, 1);
+    let day = byte(given, 2);
+    daybook::open_day(book, year, month, day)
 }
 
 // ---- calls with a time

@@ -1,8 +1,8 @@
 // A line is matched, word by word, against the pattern of its kind, which its first word chooses.
 //
 // In a pattern a letter begins a word, and / stands for the word direction or profile. 1, 2 and 4 stand for a number of so many bytes, ? for MW that may be
-// left out, * for any count of directions, @ for a party code. A comma stands for itself, a colon for itself or for no MW at all. = begins the numbers
-// expected, + stands for these, and ; ends the pattern.
+// left out, * for any count of directions, @ for a party code. A comma and a hyphen stand for themselves, a colon for itself or for no MW at all. = begins the
+// numbers expected, + stands for these, and ; ends the pattern.
 use rehearse_numbers::Digits;
 use rehearse_numbers::digits_from;
 use rehearse_numbers::fits;
@@ -22,8 +22,8 @@ use rehearse_text::past_spaces;
 use std::num::wrapping_add_usize;
 
 // In the order of the kinds below. With the word profile for / the kind is one more, and no pattern stands there.
-pub const PATTERNS: [u8; 364] = *b"\
-    open 1 hours, weekday 1 =+;\
+pub const PATTERNS: [u8; 351] = *b"\
+    open 2-1-1 =+;\
     direction 1 to 1, model 1 =+;\
     profile of directions * =+;\
     party @, access 1 =+;\
@@ -156,7 +156,7 @@ fn past_equals(line: &[u8], at: usize) -> usize {
     at
 }
 
-// A mark that has no number. A comma or a colon follows directly.
+// A mark that has no number. A comma, a hyphen or a colon follows directly.
 fn past_of(table: &[u8], place: usize, line: &[u8], at: usize, mark: u8) -> usize {
     if mark == b'=' {
         return past_equals(line, at);

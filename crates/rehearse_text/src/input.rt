@@ -88,9 +88,12 @@ pub fn is_letter(byte: u8) -> bool {
     b'a' <= byte && byte <= b'z'
 }
 
-// A word of a line ends before a space, a comma or a colon.
+// A word or a number of a line ends before a space, a comma, a hyphen or a colon.
 pub fn is_break(byte: u8) -> bool {
-    byte == b' ' || byte == b',' || byte == b':'
+    match byte {
+        b' ' | b',' | b'-' | b':' => true,
+        _ => false,
+    }
 }
 
 // No word of a table is longer.
@@ -112,7 +115,7 @@ fn past_word(table: &[u8], place: usize, line: &[u8], from: usize) -> usize {
     from
 }
 
-// A word begins after a space, a comma or a colon, and at the line's beginning.
+// A word or a number begins after a space, a comma, a hyphen or a colon, and at the line's beginning.
 pub fn may_begin(line: &[u8], at: usize, from: usize) -> bool {
     from != at || is_break(byte_at(line, wrapping_sub_usize(at, 1)))
 }

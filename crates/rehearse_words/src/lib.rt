@@ -2,6 +2,8 @@
 mod forms;
 
 use forms::hours_of;
+use forms::put_weekday;
+use forms::put_word;
 use forms::say;
 use rehearse_lines::Found;
 use rehearse_text::Numbers;
@@ -74,15 +76,35 @@ fn differs(found: Found, numbers: Numbers) -> bool {
         && !rehearse_text::same(expected, numbers)
 }
 
-fn put_answer(text: &mut Text, at: usize, found: Found, numbers: Numbers) -> usize {
-    let row = say(text, at, numbers.count, numbers);
+// The weekday and the hours of a date, by the calendar.
+fn put_day(text: &mut Text, at: usize, date: Numbers) -> usize {
+    let year = (number_at(date, 0) % 65536) as u16;
+    let month = (number_at(date, 1) % 256) as u8;
+    let day = (number_at(date, 2) % 256) as u8;
+    let weekday = calendar::weekday(year, month, day);
+    let hours = calendar::hours(year, month, day);
+    let end = put_weekday(text, at, weekday as usize);
+    say(text, end, forms::HOURS, and(none(), hours as u64))
+}
+
+// The numbers in words; of a granted opening with the day of its date.
+fn put_words(text: &mut Text, at: usize, found: Found, numbers: Numbers) -> usize {
     let kind = found.kind;
     let end = say(
         text,
-        row,
+        at,
         form_of(kind, numbers),
         numbers_named(kind, numbers),
     );
+    if kind == rehearse_lines::OPEN && number_at(numbers, 0) == 0 {
+        return put_day(text, end, found.given);
+    }
+    end
+}
+
+fn put_answer(text: &mut Text, at: usize, found: Found, numbers: Numbers) -> usize {
+    let row = say(text, at, numbers.count, numbers);
+    let end = put_words(text, row, found, numbers);
     if differs(found, numbers) {
         return say(text, end, forms::DIFFERS, numbers);
     }
@@ -111,7 +133,8 @@ fn wanted_of(mark: u8) -> usize {
         b'@' => 3,
         b'=' => 4,
         b'/' => 5,
-        b' ' => 6,
+        b'-' => 6,
+        b' ' => 7,
         _ => 0,
     }
 }
@@ -121,13 +144,7 @@ fn put_wanted(text: &mut Text, at: usize, place: usize) -> usize {
     let table: &[u8] = &rehearse_lines::PATTERNS;
     let mark = byte_at(table, place);
     if rehearse_text::is_letter(mark) {
-        return put_part(
-            text,
-            at,
-            table,
-            place,
-            rehearse_lines::past_mark(table, place),
-        );
+        return put_word(text, at, table, place);
     }
     say(
         text,
