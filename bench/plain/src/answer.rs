@@ -11,7 +11,7 @@ pub enum CapacityOf {
 #[derive(Clone, Copy, PartialEq, Eq, Debug)]
 pub enum Answer {
     Granted(u32),
-    Day,
+    Date,
     Field,
     SetupShut,
     Clock,
@@ -32,7 +32,7 @@ impl Answer {
     pub fn numbers(self) -> (u8, u32, u32) {
         match self {
             Answer::Granted(detail) => (0, detail, 0),
-            Answer::Day => (2, 0, 0),
+            Answer::Date => (17, 0, 0),
             Answer::Field => (3, 0, 0),
             Answer::SetupShut => (4, 0, 0),
             Answer::Clock => (5, 0, 0),

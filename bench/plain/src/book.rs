@@ -2,6 +2,7 @@
 //! A call looks for the first refusal in their order that applies, and changes nothing before it is sure that none does.
 
 use crate::answer::{Answer, CapacityOf};
+use crate::calendar::Date;
 use crate::code::{is_party_code, Code};
 use crate::day::{Day, Model, Timing};
 
@@ -139,10 +140,10 @@ fn refusal_at(timing: Timing) -> Option<Answer> {
 // Opening and set-up.
 impl Book {
     /// A refused opening gives an empty book of a 24-hour Monday.
-    pub fn open(hours: u8, weekday: u8) -> (Book, Answer) {
-        match Day::new(hours, weekday) {
-            Some(day) => (Book::empty(day), Answer::Granted(0)),
-            None => (Book::empty(Day::MONDAY), Answer::Day),
+    pub fn open(year: u16, month: u8, day: u8) -> (Book, Answer) {
+        match Date::new(year, month, day) {
+            Some(date) => (Book::empty(Day::of(date)), Answer::Granted(0)),
+            None => (Book::empty(Day::MONDAY), Answer::Date),
         }
     }
 

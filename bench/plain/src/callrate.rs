@@ -62,7 +62,7 @@ impl Counts {
 
 /// Every table of the set-up full, and 9,999 MW in some hours. The first twelve directions have the model, the others are four-hour ones.
 fn set_up(model: u8, hours: RangeInclusive<u8>, counts: &mut Counts) -> Book {
-    let (mut book, answer) = Book::open(24, 1);
+    let (mut book, answer) = Book::open(2015, 6, 1);
     counts.add(answer);
     for k in 0..35 {
         let model = if k < 14 { model } else { 4 };

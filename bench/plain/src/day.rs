@@ -1,5 +1,6 @@
 //! Hours, sessions and windows of one delivery day. Time is in minutes from 24 hours before the day begins.
 
+use crate::calendar::Date;
 use std::ops::Range;
 
 #[derive(Clone, Copy, PartialEq, Eq)]
@@ -44,11 +45,11 @@ impl Day {
         weekday: 1,
     };
 
-    /// A day of 23, 24 or 25 hours, Monday 1 to Sunday 7. A Tuesday has 24 hours.
-    pub fn new(hours: u8, weekday: u8) -> Option<Day> {
-        let there = (23..=25).contains(&hours) && (1..=7).contains(&weekday);
-        let odd_tuesday = weekday == TUESDAY && hours != 24;
-        (there && !odd_tuesday).then_some(Day { hours, weekday })
+    pub fn of(date: Date) -> Day {
+        Day {
+            hours: date.hours(),
+            weekday: date.weekday(),
+        }
     }
 
     pub fn has_hour(&self, hour: u8) -> bool {

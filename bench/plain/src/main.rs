@@ -4,6 +4,7 @@
 mod answer;
 mod bids;
 mod book;
+mod calendar;
 mod callrate;
 mod code;
 mod codes;

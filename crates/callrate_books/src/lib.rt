@@ -1,4 +1,4 @@
-// The books that the loads of `callrate` meet, on a Monday, and the calls that change them.
+// The books that the loads of `callrate` meet, on Monday 1 June 2015, and the calls that change them.
 use callrate_choices::Bid;
 use callrate_choices::Bids;
 use cells::Book;
@@ -72,7 +72,7 @@ fn make_offers(book: &mut Book, tally: &mut Tally, calls: u32) {
 
 // A full set-up, and 9,999 MW of each direction and each profile in the last hours of the day.
 fn set_up(book: &mut Book, tally: &mut Tally, model: u8, hours: u8) {
-    count(tally, daybook::open_day(book, 24, 1));
+    count(tally, daybook::open_day(book, 2015, 6, 1));
     for k in 0..143u8 {
         count(tally, add(book, k, model));
     }
