@@ -4,6 +4,7 @@ mod codes;
 fn main() {
     let mut tally = [0u32; 2];
     codes::run(&mut tally);
+    cases_dates::run(&mut tally);
     cases_windows::run(&mut tally);
     cases_records::run(&mut tally);
     cases_full::run(&mut tally);

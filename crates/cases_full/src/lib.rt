@@ -15,8 +15,8 @@ use rules::Session;
 const ROWS: usize = 24;
 
 // What each row tries.
-const TRIED: [u8; 865] = *b"\
-    hours 24, weekday 1|\
+const TRIED: [u8; 847] = *b"\
+    2015-06-01|\
     42 directions|\
     20 profiles|\
     100 parties|\
@@ -24,7 +24,7 @@ const TRIED: [u8; 865] = *b"\
     direction 0 to 1, model 1|\
     profile of map 3|\
     entry of party 10XCZ-CEPS-GRIDE, access 1|\
-    hours 24, weekday 1|\
+    2015-06-01|\
     direction 0 to 4, model 1|\
     direction 4 to 1, model 4|\
     entry of party 10XCZ-CEPS-GRIDE, access 17|\
@@ -108,7 +108,7 @@ fn call(book: &mut Book, row: Row, entry: u16) -> Answer {
     let first = (row[2] % 256) as u8;
     let second = (row[3] % 256) as u8;
     match row[0] {
-        0 => daybook::open_day(book, 24, 1),
+        0 => daybook::open_day(book, 2015, 6, 1),
         1 => daybook::add_direction(book, number / 7, number % 7, first),
         2 => daybook::add_profile(book, 3),
         3 => daybook::add_party(book, code(number), first),
