@@ -4,7 +4,6 @@ use cases_printing::Tally;
 use cases_printing::counted;
 use cases_printing::fill;
 use cases_printing::number;
-use cases_printing::same;
 use cases_printing::text;
 use cases_printing::word;
 use std::num::wrapping_add_u8;
@@ -14,23 +13,7 @@ use std::num::wrapping_sub_u8;
 // A year, a month and a day. There need be no such date.
 struct Date(u16, u8, u8);
 
-// Of a date: 1 where it is there, its weekday from Monday 1 to Sunday 7, and its hours. All are 0 where it is not.
-type Day = [u32; 3];
-
 // ---- cases
-
-// The weekday is 0 where there is no such date.
-fn day_of(weekday: u8, hours: u8) -> Day {
-    [(weekday != 0) as u32, weekday as u32, hours as u32]
-}
-
-fn day_found(date: Date) -> Day {
-    [
-        calendar::is_date(date.0, date.1, date.2) as u32,
-        calendar::weekday(date.0, date.1, date.2) as u32,
-        calendar::hours(date.0, date.1, date.2) as u32,
-    ]
-}
 
 // A dash and two digits.
 fn print_dashed(part: u8) {
@@ -44,27 +27,30 @@ fn print_date(date: Date) {
     print_dashed(date.2);
 }
 
-fn print_day(day: Day) {
-    if same(&day, &[0, 0, 0]) {
-        text(b"no such date");
-        return;
-    }
-    word(b"no such date, |", day[0] as usize);
+// Nothing is printed for a weekday or hours of 0.
+fn print_day(there: bool, weekday: u8, hours: u8) {
+    word(b"no such date|", there as usize);
     word(
-        b"no weekday|Monday|Tuesday|Wednesday|Thursday|Friday|Saturday|Sunday",
-        day[1] as usize,
+        b"|Monday, |Tuesday, |Wednesday, |Thursday, |Friday, |Saturday, |Sunday, ",
+        weekday as usize,
     );
-    fill(b", # hours", &day[2..3]);
+    if hours != 0 {
+        fill(b"# hours", &[hours as u32]);
+    }
 }
 
-fn date_case(tally: &mut Tally, date: Date, expected: Day) {
-    let found = day_found(date);
+// The weekday, from Monday 1 to Sunday 7, and the hours that are expected; 0 where there should be no such date.
+fn date_case(tally: &mut Tally, date: Date, weekday: u8, hours: u8) {
+    let there = calendar::is_date(date.0, date.1, date.2);
+    let weekday_found = calendar::weekday(date.0, date.1, date.2);
+    let hours_found = calendar::hours(date.0, date.1, date.2);
+    let day_same = (weekday_found == weekday) & (hours_found == hours);
     print_date(date);
     text(b": ");
-    print_day(found);
+    print_day(there, weekday_found, hours_found);
     text(b", expected ");
-    print_day(expected);
-    counted(tally, same(&found, &expected));
+    print_day(weekday != 0, weekday, hours);
+    counted(tally, day_same & (there == (weekday != 0)));
 }
 
 // ---- the months of a year
@@ -137,7 +123,7 @@ fn hours_on(month: u8, day: u8, weekday: u8) -> u8 {
 fn day_case(tally: &mut Tally, year: Year, month: u8, day: u8) {
     let weekday = weekday_on(year, month, day);
     let hours = hours_on(month, day, weekday);
-    date_case(tally, Date(year.0, month, day), day_of(weekday, hours));
+    date_case(tally, Date(year.0, month, day), weekday, hours);
 }
 
 // The first day, the last, and the one after it, which is not there.
@@ -145,11 +131,7 @@ fn month_cases(tally: &mut Tally, year: Year, month: u8) {
     let last = last_day(year, month);
     day_case(tally, year, month, 1);
     day_case(tally, year, month, last);
-    date_case(
-        tally,
-        Date(year.0, month, wrapping_add_u8(last, 1)),
-        day_of(0, 0),
-    );
+    date_case(tally, Date(year.0, month, wrapping_add_u8(last, 1)), 0, 0);
 }
 
 // Every month of a common year, of a leap year, and of 2100, which is a common one.
@@ -193,9 +175,9 @@ fn day_after(date: Date) -> Date {
 // The Saturday before, the Sunday and the Monday after.
 fn change_cases(tally: &mut Tally, sunday: Date, hours: u8) {
     let saturday = Date(sunday.0, sunday.1, wrapping_sub_u8(sunday.2, 1));
-    date_case(tally, saturday, day_of(6, 24));
-    date_case(tally, sunday, day_of(7, hours));
-    date_case(tally, day_after(sunday), day_of(1, 24));
+    date_case(tally, saturday, 6, 24);
+    date_case(tally, sunday, 7, hours);
+    date_case(tally, day_after(sunday), 1, 24);
 }
 
 fn both_changes(tally: &mut Tally, year: u16) {
@@ -241,7 +223,7 @@ fn absent_at(row: usize) -> Date {
 
 fn absent_cases(tally: &mut Tally) {
     for row in 0..ABSENT_COUNT {
-        date_case(tally, absent_at(row), day_of(0, 0));
+        date_case(tally, absent_at(row), 0, 0);
     }
 }
 
@@ -286,11 +268,7 @@ fn known_at(row: usize) -> Known {
 }
 
 fn known_case(tally: &mut Tally, known: Known) {
-    date_case(
-        tally,
-        Date(known.0, known.1, known.2),
-        day_of(known.3, known.4),
-    );
+    date_case(tally, Date(known.0, known.1, known.2), known.3, known.4);
 }
 
 fn known_cases(tally: &mut Tally) {
