@@ -10,7 +10,7 @@ use borrow.Author.Tests.{eqb-true}
 use Rattle.rules.specs.Calendar.{leap, daysIn, isDate, daysOfYears, daysOfMonths, daysSince, weekdayOf, lastSunday, hoursOf}
 use Rattle.rules.specs.Book.{opened}
 use Rattle.rules.specs.Opening.{dayOf, undatedMonday, openedDay, opening}
-use Rattle.rules.specs.Days.{DaysInOrder, LastSunday, LastSundays, KnownDay, OpenedDays}
+use Rattle.rules.specs.Days.{DaysInOrder, IsLastSunday, OneLastSunday, KnownDay, OpenedDays}
 use Rattle.rules.proofs.Bools.{and-left, and-right}
 
 -- ---- days in order
@@ -55,18 +55,18 @@ days-in-order = record { first = refl; next-day = next-day; next-month = next-mo
 
 -- ---- last Sundays
 
-is-last : (y m : ℕ) → LastSunday y m (lastSunday y m)
+is-last : (y m : ℕ) → IsLastSunday y m (lastSunday y m)
 unfolding lastSunday weekdayOf daysSince
 is-last y m = record { from = omega arith; to = omega arith; sunday = omega arith }
 
-only-last : (y m d : ℕ) → LastSunday y m d → d ≡ lastSunday y m
+only-last : (y m d : ℕ) → IsLastSunday y m d → d ≡ lastSunday y m
 unfolding lastSunday weekdayOf daysSince
 only-last y m d h =
     let e : 1 + (5 + (daysOfYears (y - 2000) + daysOfMonths y (m - 1) + (d - 1))) % 7 ≡ 7 = h .sunday in
     omega (arith, h .from, h .to)
 
-pub last-sundays : LastSundays
-last-sundays = record { is-last = is-last; only-last = only-last }
+pub one-last-sunday : OneLastSunday
+one-last-sunday = record { is-last = is-last; only-last = only-last }
 
 -- ---- the day of an opening
 

@@ -7,6 +7,17 @@ use lib.Dec.{ltb, eqb}
 use lib.ListN.{getD, replicate}
 use Rattle.rules.specs.Basics.{noMw, bit}
 
+-- the date of a day: year, month and day of the month; the book of a refused opening has none (02, S-3)
+pub data BookDate : Type 0 where
+  NoDate : BookDate
+  On : ℕ → ℕ → ℕ → BookDate
+
+-- 01, Day and clock: the delivery day of a book, with its count of hours and its weekday, Monday 1 to Sunday 7
+pub record Day : Type 0 where
+  pub date : BookDate
+  pub hours : ℕ
+  pub weekday : ℕ
+
 -- out operator, in operator, model 1 or 4
 pub record Direction : Type 0 where
   pub out : ℕ
@@ -32,17 +43,6 @@ pub record Pair : Type 0 where
   pub into : ℕ
   pub outMw : List ℕ
   pub intoMw : List ℕ
-
--- the date of a day: year, month and day of the month; the book of a refused opening has none (02, S-3)
-pub data BookDate : Type 0 where
-  NoDate : BookDate
-  On : ℕ → ℕ → ℕ → BookDate
-
--- 01, Day and clock: the delivery day of a book, with its count of hours and its weekday, Monday 1 to Sunday 7
-pub record Day : Type 0 where
-  pub date : BookDate
-  pub hours : ℕ
-  pub weekday : ℕ
 
 -- `started`: a timed call was granted; `clock` is the time of the latest. A profile is its map: bit d for direction d.
 -- `offered` and `granted` have a row of 25 hours for each direction (rows 0 to 23) and each profile (rows 24 to 31): row r, hour h at `place r h`.

@@ -17,17 +17,17 @@ pub record DaysInOrder : Type 0 where
   pub cycle : daysOfYears 400 ≡ 20871 * 7
 
 -- d is a Sunday of the month's last seven days, for a month of 31
-pub record LastSunday (y m d : ℕ) : Type 0 where
+pub record IsLastSunday (y m d : ℕ) : Type 0 where
   pub from : 25 ≤ d
   pub to : d ≤ 31
   pub sunday : weekdayOf y m d ≡ 7
 
--- exactly one day is
-pub record LastSundays : Type 0 where
-  pub is-last : (y m : ℕ) → LastSunday y m (lastSunday y m)
-  pub only-last : (y m d : ℕ) → LastSunday y m d → d ≡ lastSunday y m
+-- exactly one day of the month is
+pub record OneLastSunday : Type 0 where
+  pub is-last : (y m : ℕ) → IsLastSunday y m (lastSunday y m)
+  pub only-last : (y m d : ℕ) → IsLastSunday y m d → d ≡ lastSunday y m
 
--- 01, Day and clock: 23, 24 or 25 hours, Monday 1 to Sunday 7, and a Tuesday has 24 hours. That was 2; now it never fails
+-- 01, Day and clock: 23, 24 or 25 hours, Monday 1 to Sunday 7, and a Tuesday has 24 hours: what 01 refused with 2 where it fails
 pub record KnownDay (day : Day) : Type 0 where
   pub hours-known : (day .hours ≡ 23) ⊎ ((day .hours ≡ 24) ⊎ (day .hours ≡ 25))
   pub weekday-from : 1 ≤ day .weekday
