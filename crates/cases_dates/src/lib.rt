@@ -15,16 +15,16 @@ struct Date(u16, u8, u8);
 
 // ---- cases
 
-// A dash and two digits.
-fn print_dashed(part: u8) {
+// A hyphen and two digits.
+fn print_two_digits(part: u8) {
     word(b"-0|-", (9 < part) as usize);
     number(part as u32);
 }
 
 fn print_date(date: Date) {
     number(date.0 as u32);
-    print_dashed(date.1);
-    print_dashed(date.2);
+    print_two_digits(date.1);
+    print_two_digits(date.2);
 }
 
 // Nothing is printed for a weekday or hours of 0.

@@ -1,7 +1,7 @@
 -- What the code reads in cells, as the rules read it in the book.
 -- Assumes nothing.
 use Prim.Native.Nat.{ℕ, _+_, _*_, _-_, _≤_, _<_}
-use mathlib.Core.Path.{_≡_, refl, ap, _∙_}
+use mathlib.Core.Path.{_≡_, refl, sym, ap, _∙_}
 use mathlib.Core.Bool.{Bool, true, false, cond, _||_, _&&_, not, true≢false}
 use mathlib.Core.List.{List, []}
 use native.Mathlib.Omega.{arith}
@@ -9,11 +9,12 @@ use native.Mathlib.Nat.{zero-add}
 use lib.Dec.{eqb, leb, ltb, lit≤}
 use borrow.Author.Tests.{leb-false, ltb-false}
 use lib.ListN.{length, getD, List·getD-eq-default}
+use Rattle.rules.specs.Calendar.{isDate}
 use Rattle.rules.specs.Sessions.{sessionThere, hoursIn}
-use Rattle.rules.specs.Book.{Direction, Party, Pair, place, direction, party, right, leftAt, shortfallAt, modelOf, directionLimit, pairLimit, partyLimit, profileLimit, rightLimit}
+use Rattle.rules.specs.Book.{BookDate, NoDate, On, Direction, Party, Pair, place, direction, party, right, leftAt, shortfallAt, modelOf, directionLimit, pairLimit, partyLimit, profileLimit, rightLimit}
 use Rattle.rules.specs.Refusals.{directionUnknown, sessionUnknown, hourUnknown}
-use Rattle.cells.specs.Layout.{HOURS, DIRECTIONS, PROFILES, PARTIES, OFFERED, GRANTED, MATCHED, RIGHTS, PAIRS}
-use Rattle.cells.specs.View.{InHour, cell, cellFrom, part, counted, dayHoursIn, directionAt, directionsIn, profilesIn, partyAt, partiesIn, offeredIn, grantedIn, matchedIn, rightAt, rightsIn, pairAt, pairsIn, bookOf}
+use Rattle.cells.specs.Layout.{YEAR, MONTH, DAY, HOURS, DIRECTIONS, PROFILES, PARTIES, OFFERED, GRANTED, MATCHED, RIGHTS, PAIRS}
+use Rattle.cells.specs.View.{InHour, cell, cellFrom, part, counted, dateIn, dayHoursIn, directionAt, directionsIn, profilesIn, partyAt, partiesIn, offeredIn, grantedIn, matchedIn, rightAt, rightsIn, pairAt, pairsIn, bookOf}
 use Rattle.rules.proofs.Bools.{or-left, or-right}
 use Rattle.cells.proofs.Rows.{rows-length, rows-at}
 
@@ -43,6 +44,19 @@ offered-place b l h p = offered-at b (place l h) (omega arith)
 
 pub granted-place : (b : List ℕ) (l h : ℕ) → InHour l h → getD (bookOf b .granted) (place l h) 0 ≡ cell b (GRANTED + place l h)
 granted-place b l h p = granted-at b (place l h) (omega arith)
+
+-- the date of a book is one that exists, whatever its cells hold
+pub date-exists : (b : List ℕ) (y m d : ℕ) → bookOf b .day .date ≡ On y m d → isDate y m d ≡ true
+unfolding bookOf dateIn
+date-exists b y m d e = sym (ap existing e) ∙ go (isDate (cell b YEAR) (cell b MONTH) (cell b DAY)) refl
+  where
+    existing : BookDate → Bool
+    existing NoDate = true
+    existing (On year month day) = isDate year month day
+
+    go : (t : Bool) → isDate (cell b YEAR) (cell b MONTH) (cell b DAY) ≡ t → existing (cond t (On (cell b YEAR) (cell b MONTH) (cell b DAY)) NoDate) ≡ true
+    go true f = f
+    go false f = refl
 
 -- a day has 23 to 25 hours, whatever its cell holds
 pub hours-within : (b : List ℕ) → (23 ≤ dayHoursIn b) × (dayHoursIn b ≤ 25)

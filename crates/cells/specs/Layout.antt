@@ -2,7 +2,7 @@
 -- Assumes nothing.
 use Prim.Native.Nat.{ℕ}
 
--- the date of the day: year, month and day of the month; 0 where it has none
+-- the date of the day: year, month and day of the month; numbers that are no date where it has none
 abbrev pub YEAR : ℕ
 YEAR = 0
 

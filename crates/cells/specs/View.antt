@@ -51,13 +51,19 @@ pub record Cells (b : List ℕ) : Type 0 where
 
 -- ---- what cells hold, whatever they are
 
--- the date: none where year, month and day are no date
-unfoldable pub dateIn : List ℕ → BookDate
-dateIn b = cond (isDate (cell b YEAR) (cell b MONTH) (cell b DAY)) (On (cell b YEAR) (cell b MONTH) (cell b DAY)) NoDate
+-- a year, month and day that are no date are read as none
+abbrev pub dateRead : ℕ → ℕ → ℕ → BookDate
+dateRead y m d = cond (isDate y m d) (On y m d) NoDate
 
--- the count of hours: any number but 23 and 25 is read as 24
+unfoldable pub dateIn : List ℕ → BookDate
+dateIn b = dateRead (cell b YEAR) (cell b MONTH) (cell b DAY)
+
+-- any count of hours but 23 and 25 is read as 24
+abbrev pub hoursRead : ℕ → ℕ
+hoursRead n = cond (eqb n 23) 23 (cond (eqb n 25) 25 24)
+
 unfoldable pub dayHoursIn : List ℕ → ℕ
-dayHoursIn b = cond (eqb (cell b HOURS) 23) 23 (cond (eqb (cell b HOURS) 25) 25 24)
+dayHoursIn b = hoursRead (cell b HOURS)
 
 abbrev pub weekdayIn : List ℕ → ℕ
 weekdayIn b = cell b WEEKDAY

@@ -7,7 +7,7 @@ ghost use Rattle.cells.specs.View.{InHour, Places, InRange, Cells, count
 use rules::Hour;
 use rules::Session;
 
-// The date of the day: year, month and day of the month; 0 where it has none.
+// The date of the day: year, month and day of the month; numbers that are no date where it has none.
 pub const YEAR: usize = 0;
 
 pub const MONTH: usize = 1;

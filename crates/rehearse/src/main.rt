@@ -31,7 +31,7 @@ fn numbers(book: &mut Book, line: &[u8], found: Found) -> Numbers {
 fn answer(book: &mut Book, line: &[u8], run: Run) -> Run {
     let found = rehearse_lines::read(line, run.opened);
     let numbers = numbers(book, line, found);
-    rehearse_words::print_line(run, line, found, numbers)
+    rehearse_words::print_line(run, line, found, numbers, rehearse_reads::day(book))
 }
 
 // The first `count` bytes are the line; a line that is too long fills the room.

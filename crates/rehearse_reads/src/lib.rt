@@ -40,6 +40,12 @@ fn confirmed(book: &Book, given: [u64; 10]) -> ConfirmedRead
     daybook::confirmed_of(book, number, out, into)
 }
 
+// The weekday and the hours of the book's day.
+pub fn day(book: &Book) -> Numbers {
+    let weekday = and(none(), cells::weekday(book) as u64);
+    and(weekday, cells::hours(book) as u64)
+}
+
 // ---- the numbers of an answer
 
 pub fn of_answer(answer: Answer) -> Numbers {

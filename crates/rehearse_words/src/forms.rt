@@ -18,7 +18,7 @@ const FORMS: [u8; 1242] = *b"\
     short: hour B, profile C;\
     granted: B right;\
     B MW left, shortfall C MW;\
-    , A hours;\
+    , B hours;\
     granted;\
     granted: above the right in hour A of the session;\
     granted: above the right in hours A B of the session;\

@@ -76,19 +76,14 @@ fn differs(found: Found, numbers: Numbers) -> bool {
         && !rehearse_text::same(expected, numbers)
 }
 
-// The weekday and the hours of a date, by the calendar.
-fn put_day(text: &mut Text, at: usize, date: Numbers) -> usize {
-    let year = (number_at(date, 0) % 65536) as u16;
-    let month = (number_at(date, 1) % 256) as u8;
-    let day = (number_at(date, 2) % 256) as u8;
-    let weekday = calendar::weekday(year, month, day);
-    let hours = calendar::hours(year, month, day);
-    let end = put_weekday(text, at, weekday as usize);
-    say(text, end, forms::HOURS, and(none(), hours as u64))
+// The weekday of a day and its hours, which are its two numbers.
+fn put_day(text: &mut Text, at: usize, day: Numbers) -> usize {
+    let end = put_weekday(text, at, (number_at(day, 0) % 8) as usize);
+    say(text, end, forms::HOURS, day)
 }
 
-// The numbers in words; of a granted opening with the day of its date.
-fn put_words(text: &mut Text, at: usize, found: Found, numbers: Numbers) -> usize {
+// The numbers in words; of a granted opening with the day of the book.
+fn put_words(text: &mut Text, at: usize, found: Found, numbers: Numbers, day: Numbers) -> usize {
     let kind = found.kind;
     let end = say(
         text,
@@ -97,14 +92,14 @@ fn put_words(text: &mut Text, at: usize, found: Found, numbers: Numbers) -> usiz
         numbers_named(kind, numbers),
     );
     if kind == rehearse_lines::OPEN && number_at(numbers, 0) == 0 {
-        return put_day(text, end, found.given);
+        return put_day(text, end, day);
     }
     end
 }
 
-fn put_answer(text: &mut Text, at: usize, found: Found, numbers: Numbers) -> usize {
+fn put_answer(text: &mut Text, at: usize, found: Found, numbers: Numbers, day: Numbers) -> usize {
     let row = say(text, at, numbers.count, numbers);
-    let end = put_words(text, row, found, numbers);
+    let end = put_words(text, row, found, numbers, day);
     if differs(found, numbers) {
         return say(text, end, forms::DIFFERS, numbers);
     }
@@ -168,7 +163,7 @@ fn put_unfit(text: &mut Text, at: usize, line: &[u8], found: Found) -> usize {
 
 // ---- every line
 
-fn put_line(text: &mut Text, line: &[u8], found: Found, numbers: Numbers) -> usize {
+fn put_line(text: &mut Text, line: &[u8], found: Found, numbers: Numbers, day: Numbers) -> usize {
     let state = found.state;
     if state == rehearse_lines::PASSED_ON {
         return put_part(text, 0, line, 0, line.len());
@@ -178,7 +173,7 @@ fn put_line(text: &mut Text, line: &[u8], found: Found, numbers: Numbers) -> usi
     }
     let end = put_shown(text, 0, line);
     if state == rehearse_lines::FITS {
-        return put_answer(text, end, found, numbers);
+        return put_answer(text, end, found, numbers, day);
     }
     put_unfit(text, end, line, found)
 }
@@ -230,10 +225,10 @@ fn counted(mut run: Run, state: u8, differs: bool) -> Run {
     run
 }
 
-// Prints a line with the numbers of its answer; none where it has no answer.
-pub fn print_line(run: Run, line: &[u8], found: Found, numbers: Numbers) -> Run {
+// Prints a line with the numbers of its answer; none where it has no answer. `day` has the weekday and the hours of the book.
+pub fn print_line(run: Run, line: &[u8], found: Found, numbers: Numbers, day: Numbers) -> Run {
     let mut text = [0u8; rehearse_text::TEXT];
-    let end = put_line(&mut text, line, found, numbers);
+    let end = put_line(&mut text, line, found, numbers, day);
     let past = put_byte(&mut text, end, b'\n');
     let mut next = counted(run, found.state, differs(found, numbers));
     next.count = 0;

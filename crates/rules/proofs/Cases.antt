@@ -22,4 +22,4 @@ use Rattle.rules.specs.Cases.{AllAsSaid, monday, bidRecord, cases}
 
 pub as-said : AllAsSaid cases
 unfolding cases monday bidRecord leap daysIn isDate daysOfYears daysOfMonths daysSince weekdayOf lastSunday hoursOf ones onesIn bit mapOf has anyAbove same mwAt sessionThere firstHour hoursIn sessionOf timing gateHour opens bidsClose nominationsClose matchingOpens held bidTiming nominationTiming offerTiming matchingTiming between charValue allChars weighted isCode holds opened directionTaken codeTaken profileShort shortProfile shortHour shortage share withBid wrapAdded isRightOf rightTaken addedRight withRight rightFrom rightNumber isPairOf pairTaken pairOf withSide withPair sideTotal aboveRight marks countRights lowerTotal confirmedOf confirmedAt order firstOf field setupShut clock hourUnknown unknown taken timingOf hoursLacking wrongHours noAccess notOwner isMatched cycle full shortageOf refuses isTimed clockAfter directionsAfter profilesAfter partiesAfter offeredAfter grantedAfter rightsAfter pairsAfter matchedAfter effect detail refusal applied run openingRefuses dayOf undatedMonday openedDay opening directionReadRefuses readDirection profileReadRefuses readProfile confirmedReadRefuses readConfirmed widths fieldsOf callOf kinds stands standing bytesOf body recordOf numberAt fieldsAt endAt fieldsIn endIn readerRefuses reading
-as-said = (refl, (refl, (refl, (refl, (refl, (refl, (refl, (refl, (refl, (refl, (refl, (refl, (refl, (refl, (refl, (refl, (refl, (refl, (refl, (refl, (refl, (refl, (refl, (refl, (refl, (refl, (refl, (refl, (refl, (refl, (refl, (refl, (refl, (refl, (refl, (refl, (refl, (refl, (refl, (refl, (refl, (refl, (refl, (refl, (refl, (refl, (refl, (refl, (refl, (refl, (refl, (refl, (refl, (refl, (refl, tt)))))))))))))))))))))))))))))))))))))))))))))))))))))))
+as-said = (refl, (refl, (refl, (refl, (refl, (refl, (refl, (refl, (refl, (refl, (refl, (refl, (refl, (refl, (refl, (refl, (refl, (refl, (refl, (refl, (refl, (refl, (refl, (refl, (refl, (refl, (refl, (refl, (refl, (refl, (refl, (refl, (refl, (refl, (refl, (refl, (refl, (refl, (refl, (refl, (refl, (refl, (refl, (refl, (refl, (refl, (refl, (refl, (refl, (refl, (refl, (refl, (refl, (refl, (refl, (refl, tt))))))))))))))))))))))))))))))))))))))))))))))))))))))))

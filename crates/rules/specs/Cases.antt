@@ -5,6 +5,7 @@ use mathlib.Core.Path.{_≡_}
 use mathlib.Core.Bool.{Bool, cond}
 use mathlib.Core.List.{List, [], _∷_, _++_, map}
 use lib.ListN.{getD}
+use Rattle.rules.specs.Calendar.{daysIn}
 use Rattle.rules.specs.Sessions.{firstHour, hoursIn}
 use Rattle.rules.specs.Windows.{bidsClose, bidTiming, nominationTiming, offerTiming, matchingTiming}
 use Rattle.rules.specs.Codes.{charValue, weightedSum, isCode}
@@ -51,6 +52,9 @@ abbrev opensAs : ℕ → ℕ → ℕ → List ℕ
 opensAs y m d =
     let o : Step = opening y m d in
     o .reply .number ∷ o .book .day .weekday ∷ o .book .day .hours ∷ dateNumbers (o .book .day .date)
+
+abbrev twelveMonths : List ℕ
+twelveMonths = 1 ∷ 2 ∷ 3 ∷ 4 ∷ 5 ∷ 6 ∷ 7 ∷ 8 ∷ 9 ∷ 10 ∷ 11 ∷ 12 ∷ []
 
 -- first and last hour of a session of the four-hour model
 abbrev hoursOfSession : ℕ → ℕ → List ℕ
@@ -252,6 +256,11 @@ cases =
     -- the cycle begins on a Saturday and ends with 31 December 2399, a Friday
     ∷ record { computed = opensAs 1999 12 31 ++ opensAs 2000 1 1; said = 17 ∷ 1 ∷ 24 ∷ 0 ∷ 6 ∷ 24 ∷ 2000 ∷ 1 ∷ 1 ∷ [] }
     ∷ record { computed = opensAs 2399 12 31 ++ opensAs 2400 1 1; said = 0 ∷ 5 ∷ 24 ∷ 2399 ∷ 12 ∷ 31 ∷ 17 ∷ 1 ∷ 24 ∷ [] }
+    -- the last days of the months of 2015, and of February in 2016, 2100 and 2000
+    ∷ record {
+      computed = map (daysIn 2015) twelveMonths ++ map (λ (y : ℕ). daysIn y 2) (2016 ∷ 2100 ∷ 2000 ∷ []);
+      said = 31 ∷ 28 ∷ 31 ∷ 30 ∷ 31 ∷ 30 ∷ 31 ∷ 31 ∷ 30 ∷ 31 ∷ 30 ∷ 31 ∷ 29 ∷ 28 ∷ 29 ∷ [];
+    }
     -- no month 0 or 13, no day 0 or 32, no 31 April
     ∷ record { computed = opensAs 2015 0 1 ++ opensAs 2015 13 1; said = 17 ∷ 1 ∷ 24 ∷ 17 ∷ 1 ∷ 24 ∷ [] }
     ∷ record { computed = opensAs 2015 1 0 ++ opensAs 2015 1 32 ++ opensAs 2015 4 31; said = 17 ∷ 1 ∷ 24 ∷ 17 ∷ 1 ∷ 24 ∷ 17 ∷ 1 ∷ 24 ∷ [] }

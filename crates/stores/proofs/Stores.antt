@@ -3,18 +3,16 @@
 use Prim.Native.Nat.{ℕ, _+_, _*_, _≤_, _<_}
 use mathlib.Core.Path.{_≡_, refl, sym, ap, _∙_}
 use mathlib.Core.Logic.{_≢_}
-use mathlib.Core.Bool.{cond}
 use mathlib.Core.List.{List, [], _∷_, _++_}
 use native.Mathlib.Nat.{zero-add}
 use native.Mathlib.Omega.{arith}
-use lib.Dec.{eqb, lit≤, lit<}
+use lib.Dec.{lit≤, lit<}
 use lib.ListN.{getD, set, length, length-set, replicate, length-replicate, getD-replicate}
 use lib.Seq.{getD-set-same, getD-set-other, ext-getD}
-use Rattle.rules.specs.Calendar.{isDate}
-use Rattle.rules.specs.Book.{BookDate, NoDate, On, opened}
+use Rattle.rules.specs.Book.{opened}
 use Rattle.cells.specs.Layout.{CELLS, YEAR, MONTH, DAY, HOURS, WEEKDAY, CLOCK, STARTED, DIRECTIONS, PROFILES, PARTIES, OFFERED, GRANTED, MATCHED, RIGHTS, PAIRS}
 use Rattle.cells.specs.Loops.{rows}
-use Rattle.cells.specs.View.{cell, cellFrom, part, dateIn, dayHoursIn, dayIn, directionsIn, profilesIn, partiesIn, offeredIn, grantedIn, matchedIn, rightsIn, pairsIn, bookOf}
+use Rattle.cells.specs.View.{cell, cellFrom, part, dateRead, dateIn, hoursRead, dayHoursIn, dayIn, directionsIn, profilesIn, partiesIn, offeredIn, grantedIn, matchedIn, rightsIn, pairsIn, bookOf}
 use Rattle.stores.specs.Stores.{clocked, emptied}
 use Rattle.cells.proofs.Rows.{rows-length, rows-set}
 use Rattle.cells.proofs.Views.{part-at}
@@ -111,13 +109,6 @@ emptied-clear y m d n weekday =
     (clear-set (set (set (set b YEAR y) MONTH m) DAY d) HOURS n (lit< tt)
     (clear-set (set (set b YEAR y) MONTH m) DAY d (lit< tt)
     (clear-set (set b YEAR y) MONTH m (lit< tt) (clear-set b YEAR y (lit< tt) (λ i p q. getD-replicate CELLS i 0 0 q)))))
-
--- the date and the count of hours as they are read
-abbrev pub dateRead : ℕ → ℕ → ℕ → BookDate
-dateRead y m d = cond (isDate y m d) (On y m d) NoDate
-
-abbrev pub hoursRead : ℕ → ℕ
-hoursRead n = cond (eqb n 23) 23 (cond (eqb n 25) 25 24)
 
 pub emptied-book : (y m d n weekday : ℕ) → bookOf (emptied y m d n weekday) ≡ opened (record { date = dateRead y m d; hours = hoursRead n; weekday = weekday })
 unfolding emptied dateIn dayHoursIn

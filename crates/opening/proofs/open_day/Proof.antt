@@ -1,16 +1,19 @@
 -- `opening::open_day` meets its contract.
 -- Assumes nothing.
-use mathlib.Core.Path.{sym, _∙_}
+use mathlib.Core.Path.{refl, sym, _∙_}
 use borrow.Author.Needs.{needs}
 use borrow.Author.Tests.{not-true, not-false}
+use Rattle.rules.specs.Basics.{between}
+use Rattle.rules.specs.Calendar.{leap, daysIn, isDate}
 use Rattle.opening.proofs.Opening.{opens-refused, opens-granted}
 use Rattle.opening.proofs.open_day.Statement.{statement}
 use Rattle.opening.proofs.open_day.Tie as tie
 
 returns : tie.Need-returns
+unfolding isDate between daysIn leap
 returns c =
     let asked = c .before .before .before .is-date in
-    rw (c .clear .ensures) (opens-refused _ _ _ (sym (asked .ensures) ∙ not-true (asked .result) (c .before .before .if1 .taken)))
+    rw (c .clear .ensures) (opens-refused _ _ _ _ _ _ (sym (asked .ensures) ∙ not-true (asked .result) (c .before .before .if1 .taken)) refl)
 
 returns-2 : tie.Need-returns-2
 returns-2 c =
