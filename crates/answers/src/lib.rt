@@ -1,4 +1,6 @@
 // What the calls answer: a verdict before anything is stored, the replies of the reads, and the numbers of an answer. What each call promises stands in specs/.
+#![tactic(auto)]
+
 ghost use Rattle.std.specs.Prelude.{◌≡◌, ◌||◌, ltb};
 ghost use Rattle.rules.specs.Basics.{bit};
 ghost use Rattle.rules.specs.Said.{said, said_numbers, capacity_number};
@@ -10,14 +12,14 @@ use cells::Book;
 use rules::{Answer, CapacityOf, Hour, ReplyNumbers, Session, Timing};
 
 // What the tests of a call find: nothing against it, or the refusal.
-#[derive(Drop)]
+#[derive(Clone, Copy)]
 pub enum Verdict {
     Clear,
     No(Answer),
 }
 
 // Capacity left, and the shortfall; zeros where refused.
-#[derive(Drop)]
+#[derive(Clone, Copy)]
 pub struct LeftRead {
     pub answer: Answer,
     pub left: u32,
@@ -25,7 +27,7 @@ pub struct LeftRead {
 }
 
 // A right; zeros where refused.
-#[derive(Drop)]
+#[derive(Clone, Copy)]
 pub struct RightRead {
     pub answer: Answer,
     pub holder: u8,
@@ -35,7 +37,7 @@ pub struct RightRead {
 }
 
 // The confirmed MW of a pair; zeros where refused.
-#[derive(Drop)]
+#[derive(Clone, Copy)]
 pub struct ConfirmedRead {
     pub answer: Answer,
     pub mw: [u32; 5],

@@ -1,4 +1,6 @@
 // Bids. A bid is checked whole before anything is stored.
+#![tactic(auto)]
+
 ghost use Rattle.std.specs.Prelude.{◌≡◌, ◌||◌, not, ◌+◌, ◌*◌, ◌<◌, ltb, drop};
 ghost use Rattle.rules.specs.Basics.{bit, any_above};
 ghost use Rattle.rules.specs.Sessions.{hours_in};
@@ -18,7 +20,7 @@ use rights::Entry;
 use rules::{Answer, Session, Timing};
 
 // What the tests of a bid find: nothing against it, with its entry, or the refusal.
-#[derive(Drop)]
+#[derive(Clone, Copy)]
 enum BidVerdict {
     Clear(Entry),
     No(Answer),

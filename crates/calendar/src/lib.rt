@@ -1,4 +1,6 @@
 // Dates of the years 2000 to 2399: whether one is there, its weekday, and how many hours it has. Each function answers for any numbers, in constant time.
+#![tactic(auto)]
+
 mod sundays;
 
 ghost use Rattle.std.specs.Prelude.{◌-◌, ◌≤◌, ◌≡◌, cond, ◌&&◌, eqb};

@@ -1,12 +1,14 @@
 // A benchmark: each load fills a book, makes many calls, and prints the sum of the answers.
 // `callrate LOAD` runs the load of that name, `callrate` all of them.
+#![tactic(auto)]
+
 mod reads;
 
 use callrate_books::Tally;
 use callrate_choices::Bids;
 use cells::Book;
 
-#[derive(Drop)]
+#[derive(Clone, Copy)]
 enum Load {
     Bids(Bids),
     Nominate,

@@ -1,4 +1,6 @@
 // The books that the loads of `callrate` meet, on Monday 1 June 2015, and the calls that change them.
+#![tactic(auto)]
+
 use callrate_choices::{Bid, Bids};
 use cells::Book;
 use rules::{Answer, Hour, ReplyNumbers, Session};

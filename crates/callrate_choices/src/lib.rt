@@ -1,5 +1,7 @@
 // The bids and pairs of the loads of `callrate`, each chosen by its number.
-#[derive(Drop)]
+#![tactic(auto)]
+
+#[derive(Clone, Copy)]
 pub struct Bid {
     pub time: u32,
     pub party: u8,
@@ -9,7 +11,7 @@ pub struct Bid {
 }
 
 // The bids of a load.
-#[derive(Drop)]
+#[derive(Clone, Copy)]
 pub enum Bids {
     Mixed,
     Standing,
@@ -110,14 +112,14 @@ pub fn bid_of(bids: Bids, i: u32) -> Bid {
 
 // ---- pairs and nominations
 
-#[derive(Drop)]
+#[derive(Clone, Copy)]
 pub struct Pair {
     pub right: u16,
     pub out: u8,
     pub into: u8,
 }
 
-#[derive(Drop)]
+#[derive(Clone, Copy)]
 pub struct Nomination {
     pub sender: u8,
     pub other: u8,

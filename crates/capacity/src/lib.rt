@@ -1,4 +1,6 @@
 // The search for a shortage, and the granting of a bid's hours, in place.
+#![tactic(auto)]
+
 ghost use Rattle.std.specs.Prelude.{◌≡◌, ◌+◌, ◌-◌, ◌<◌, ◌≤◌, drop, nat_lt};
 ghost use Rattle.rules.specs.Basics.{bit, any_above};
 ghost use Rattle.rules.specs.Book.{left_at, direction_limit, profile_limit};
@@ -11,7 +13,7 @@ use cells::Book;
 use rules::{CapacityOf, Hour};
 
 // What the search finds.
-#[derive(Drop)]
+#[derive(Clone, Copy)]
 pub enum Search {
     Short(Hour, CapacityOf),
     Enough,

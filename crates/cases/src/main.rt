@@ -1,4 +1,6 @@
 // Runs what is tested and not proved: a line for each case, with what came out and what was expected.
+#![tactic(auto)]
+
 mod codes;
 
 fn main() {

@@ -1,4 +1,6 @@
 // Party codes for tries: a code for each number, made and not published.
+#![tactic(auto)]
+
 const CHARACTERS: [u8; 36] = *b"0123456789ABCDEFGHIJKLMNOPQRSTUVWXYZ";
 
 // A code with two digits of the number, and the check character that makes it a party code. For a few numbers there is none, since it would be "-".

@@ -1,10 +1,12 @@
 // The calendar: which dates are there, their weekdays and their hours. What is expected is typed, or counted on from a typed weekday; the
 // changes of the clock are those of the published lists.
+#![tactic(auto)]
+
 use cases_printing::{Tally, counted, fill, number, text, word};
 use std::num::{wrapping_add_u8, wrapping_add_u16, wrapping_sub_u8};
 
 // A year, a month and a day. There need be no such date.
-#[derive(Drop)]
+#[derive(Clone, Copy)]
 struct Date(u16, u8, u8);
 
 // ---- cases
@@ -50,7 +52,7 @@ fn date_case(tally: &mut Tally, date: Date, weekday: u8, hours: u8) {
 // ---- the months of a year
 
 // A year, the weekday of its first day, and the last day of its February.
-#[derive(Drop)]
+#[derive(Clone, Copy)]
 struct Year(u16, u8, u8);
 
 fn year_at(k: u8) -> Year {
@@ -227,7 +229,7 @@ fn absent_cases(tally: &mut Tally) {
 const KNOWN_COUNT: usize = 26;
 
 // A date with its weekday and its hours.
-#[derive(Drop)]
+#[derive(Clone, Copy)]
 struct Known(u16, u8, u8, u8, u8);
 
 // The ends of the cycle, leap days and hundreds of years, the days after the years above, Sundays a week before or after a change, and

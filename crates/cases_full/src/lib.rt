@@ -1,4 +1,6 @@
 // Full tables: as many entries as there is room for are granted, the next is refused, and what needs no new entry is still granted.
+#![tactic(auto)]
+
 use cases_printing::{Tally, case, counted, fill, same, text, word};
 use cells::Book;
 use rules::{Answer, Hour, Session};

@@ -1,4 +1,5 @@
 // What every section prints with, on standard output, and the tally of cases.
+#![tactic(auto)]
 
 // How many cases ran, and how many of them did not come out as expected.
 pub type Tally = [u32; 2];

@@ -1,5 +1,7 @@
 // Call records of every kind: each read whole, with bytes after it and cut short, and written back; calls that the writer refuses; and
 // damaged records.
+#![tactic(auto)]
+
 ghost use Rattle.std.specs.Prelude.{◌≡◌, ◌<◌, ◌≤◌, length};
 
 use cases_printing::{Tally, counted, fill, hex, part, same, text};

@@ -1,5 +1,7 @@
 // The sessions of both models on days of 23, 24 and 25 hours, and every window at the minutes about its gates, on Mondays, Tuesdays and
 // Wednesdays: whether a call is too early, in or too late.
+#![tactic(auto)]
+
 ghost use Rattle.std.specs.Prelude.{◌<◌, ◌≤◌};
 
 use cases_printing::{Tally, case, counted, fill, text, word};
@@ -23,7 +25,7 @@ const MATCHING: usize = 3;
 const LAST_OFFERS: usize = 5;
 
 // A session of a day; the weekday is 0 where its hours are tried and not its windows.
-#[derive(Drop)]
+#[derive(Clone, Copy)]
 struct Place {
     weekday: u32,
     hours: u8,
@@ -32,7 +34,7 @@ struct Place {
 }
 
 // A window holds the minute at which it opens and not the one at which it closes. It is tried about two minutes.
-#[derive(Drop)]
+#[derive(Clone, Copy)]
 struct Window {
     row: usize,
     opens: u32,

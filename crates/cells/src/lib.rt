@@ -1,4 +1,6 @@
 // The cells of a day book: one lent array with a table at each fixed place, the day's own cells, and the count of a table. Nothing is assumed of what the cells hold.
+#![tactic(auto)]
+
 ghost use Rattle.std.specs.Prelude.{◌≡◌, ◌<◌};
 ghost use Rattle.rules.specs.Book.{flag};
 ghost use Rattle.cells.specs.Layout.{CELLS};
@@ -72,7 +74,7 @@ pub const FLAGS: usize = 600;
 pub const PROFILE_ROW: u8 = 24;
 
 // What the search for a row of a table finds: its number.
-#[derive(Drop)]
+#[derive(Clone, Copy)]
 pub enum Found {
     At(u32),
     Nothing,

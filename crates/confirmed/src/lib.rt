@@ -1,4 +1,6 @@
 // The read of the confirmed MW of a pair.
+#![tactic(auto)]
+
 ghost use Rattle.std.specs.Prelude.{◌≡◌, ◌<◌};
 ghost use Rattle.rules.specs.Basics.{five};
 ghost use Rattle.rules.specs.Book.{pair_limit, right_limit};

@@ -1,4 +1,6 @@
 // The day's sessions and hours. No public function has a `requires`: each answers for any numbers, as the rules do.
+#![tactic(auto)]
+
 ghost use Rattle.std.specs.Prelude.{◌≡◌, cond, ◌+◌, ◌-◌, ◌≤◌, eqb};
 ghost use Rattle.rules.specs.Sessions.{session_there, first_hour, hours_in, session_of, first_hour_there};
 

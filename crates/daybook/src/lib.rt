@@ -1,4 +1,6 @@
 // The public calls of a day book. The book is a lent array of cells; no call has a `requires`, whatever the cells hold.
+#![tactic(auto)]
+
 ghost use Rattle.std.specs.Prelude.{◌≡◌};
 ghost use Rattle.rules.specs.Said.{said, said_numbers};
 ghost use Rattle.rules.specs.Calls.{AddDirection, AddProfile, AddParty, OfferDirection, OfferProfile, Bid, Nominate, Match};

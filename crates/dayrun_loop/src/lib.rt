@@ -1,4 +1,6 @@
 // The loop of the program `dayrun`: it reads standard input and writes standard output as `dayrun_progress` and `stream` say.
+#![tactic(auto)]
+
 ghost use Rattle.std.specs.Prelude.{◌≡◌, ◌-◌, ◌<◌, ◌≤◌, length};
 ghost use Rattle.cells.specs.View.{book_of};
 ghost use Rattle.dayrun_records.specs.Records.{start_book};

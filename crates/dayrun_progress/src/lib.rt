@@ -1,4 +1,6 @@
 // The state of the program `dayrun`, what comes next there, and the steps that take no record.
+#![tactic(auto)]
+
 ghost use Rattle.std.specs.Prelude.{◌≡◌, ◌&&◌, not, ◌+◌, ◌-◌, ◌^◌, ◌<◌, ◌≤◌, leb};
 ghost use Rattle.dayrun_settled.specs.Settled.{longest};
 ghost use Rattle.dayrun_progress.specs.States.{text_size, line_size, unread, Fits, answerable, ready, next_of, start_progress, wrote_progress, Fronted, received_progress};
@@ -8,7 +10,7 @@ pub const TEXT: usize = 4096;
 
 // The unread bytes stand in the input's buffer from `from` up to `to`, the collected lines in the first `filled` bytes of the text.
 // The position is that of the next record.
-#[derive(Drop)]
+#[derive(Clone, Copy)]
 pub struct Progress {
     pub from: usize,
     pub to: usize,
@@ -19,7 +21,7 @@ pub struct Progress {
 }
 
 // What the program does next: takes a record and answers it, writes the collected lines, reads, or ends.
-#[derive(Drop)]
+#[derive(Clone, Copy)]
 pub enum Next {
     Take,
     Write,

@@ -1,4 +1,6 @@
 // One call record on a book: the call that it makes, and the book that the program `dayrun` opens.
+#![tactic(auto)]
+
 ghost use Rattle.std.specs.Prelude.{◌≡◌};
 ghost use Rattle.cells.specs.View.{book_of};
 ghost use Rattle.dayrun_records.specs.Records.{start_book, AnswersRecord, Takes};
@@ -7,7 +9,7 @@ use cells::Book;
 use rules::{Answer, CallRecord};
 
 // The answer to the record at the front of bytes, and the record's length; 0 where it can't be read.
-#[derive(Drop)]
+#[derive(Clone, Copy)]
 pub struct Taken {
     pub answer: Answer,
     pub length: usize,

@@ -1,4 +1,6 @@
 // When the bytes at hand settle the answer to a call record.
+#![tactic(auto)]
+
 ghost use Rattle.std.specs.Prelude.{◌≡◌, ◌∷◌, ◌++◌, ◌≤◌, length, drop, replicate};
 ghost use Rattle.dayrun_settled.specs.Settled.{longest, is_read, can_be_read, settled};
 

@@ -1,10 +1,12 @@
 // Party codes: sixteen characters, of which the last is a check on the others.
+#![tactic(auto)]
+
 ghost use Rattle.std.specs.Prelude.{◌≡◌, ◌-◌, ◌*◌, ◌%◌, ◌≤◌, ◌<◌};
 ghost use Rattle.rules.specs.Codes.{is_code};
 ghost use Rattle.eic.specs.Chars.{Reads};
 
 // What a byte is worth in a code.
-#[derive(Drop)]
+#[derive(Clone, Copy)]
 enum CharValue {
     Is(u8),
     Not,

@@ -1,4 +1,6 @@
 // The fields of a call record: the tables of their widths and of the kinds, a call as its fields, the map of a kind, and the tests of a map.
+#![tactic(auto)]
+
 ghost use Rattle.std.specs.Prelude.{◌≡◌, ◌||◌, ◌&&◌, not, ◌<◌, eqb};
 ghost use Rattle.rules.specs.Basics.{bit, has};
 ghost use Rattle.rules.specs.Records.{fields_of, call_of, no_call, kind_at, is_kind, stands, map_for, foreign};
@@ -10,7 +12,7 @@ use rules::{CallRecord, Hour, Session};
 pub type Fields = [u32; 15];
 
 // The bits of a kind: those that always stand, and those of its MW, which stand where the MW is not 0.
-#[derive(Drop)]
+#[derive(Clone, Copy)]
 struct KindMaps {
     always: u32,
     mws: u32,

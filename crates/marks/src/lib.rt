@@ -1,4 +1,6 @@
 // The marks of a nomination: the hours in which a side's total under a right is above the right.
+#![tactic(auto)]
+
 ghost use Rattle.std.specs.Prelude.{◌≡◌, cond, ◌<◌, ◌≤◌, ltb, get_or};
 ghost use Rattle.rules.specs.Book.{pair_limit, right_limit};
 ghost use Rattle.rules.specs.Nominations.{side_of, marks};

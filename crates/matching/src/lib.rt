@@ -1,4 +1,6 @@
 // The matching of a direction's session, once. It is checked whole before anything is stored.
+#![tactic(auto)]
+
 ghost use Rattle.std.specs.Prelude.{◌≡◌, ◌||◌, ◌<◌, ltb};
 ghost use Rattle.rules.specs.Windows.{latest, matching_timing};
 ghost use Rattle.rules.specs.Book.{right_limit};

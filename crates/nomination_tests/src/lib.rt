@@ -1,4 +1,6 @@
 // The tests of a nomination against its parties and its right.
+#![tactic(auto)]
+
 ghost use Rattle.std.specs.Prelude.{◌≡◌, ◌||◌, not, ◌<◌, ltb, eqb};
 ghost use Rattle.rules.specs.Basics.{bit, any_above};
 ghost use Rattle.rules.specs.Windows.{latest, nomination_timing};

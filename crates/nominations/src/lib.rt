@@ -1,4 +1,6 @@
 // Nominations. A nomination is checked whole before anything is stored.
+#![tactic(auto)]
+
 ghost use Rattle.std.specs.Prelude.{◌≡◌};
 ghost use Rattle.rules.specs.Calls.{Nominate};
 ghost use Rattle.rules.specs.Nominations.{out_of, into_of};
@@ -11,7 +13,7 @@ use cells::{Book, Found};
 use rules::Answer;
 
 // What the tests of a nomination find: nothing against it, with what the search for its pair found, or the refusal.
-#[derive(Drop)]
+#[derive(Clone, Copy)]
 enum NominationVerdict {
     Clear(Found),
     No(Answer),

@@ -1,4 +1,6 @@
 // Offers. No call has a `requires`: each promise is an equation with the rules, whatever the cells hold.
+#![tactic(auto)]
+
 ghost use Rattle.std.specs.Prelude.{◌≡◌, ◌||◌, ltb};
 ghost use Rattle.rules.specs.Windows.{latest, offer_timing};
 ghost use Rattle.rules.specs.Calls.{OfferDirection, OfferProfile};

@@ -1,4 +1,6 @@
 // The opening of a day by its date. Its promise is an equation with the rules, whatever the cells held.
+#![tactic(auto)]
+
 ghost use Rattle.answers.specs.Promises.{Opens};
 
 use cells::Book;

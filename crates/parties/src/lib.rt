@@ -1,4 +1,6 @@
 // The entry of a party, with its code and the map of its access. The promise is an equation with the rules, whatever the cells hold.
+#![tactic(auto)]
+
 ghost use Rattle.std.specs.Prelude.{◌≡◌, ◌||◌, not, [], ◌∷◌, ◌++◌, ◌<◌, ltb, leb, eqb, length};
 ghost use Rattle.rules.specs.Calls.{AddParty};
 ghost use Rattle.rules.specs.Codes.{is_code};

@@ -1,4 +1,6 @@
 // The reads of capacity left, with the shortfall, and of rights. No read has a `requires`: each promise is an equation with the rules, whatever the cells hold.
+#![tactic(auto)]
+
 ghost use Rattle.std.specs.Prelude.{◌≡◌, ◌<◌};
 ghost use Rattle.rules.specs.Book.{right_limit};
 ghost use Rattle.rules.specs.declared.Answer.TheVariants.{Granted};

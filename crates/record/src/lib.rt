@@ -1,4 +1,6 @@
 // Call records: a map of two bytes, then the fields whose bit stands, in bit order, each low byte first.
+#![tactic(auto)]
+
 ghost use Rattle.std.specs.Prelude.{◌≡◌, ◌||◌, not, ◌+◌, ◌≤◌, ltb, length, get_or};
 ghost use Rattle.std.proofs.lemmas.List.Edits.{sets};
 ghost use Rattle.rules.specs.Records.{widths, kind_at, is_kind, foreign, bytes_of, body, number_at};
@@ -9,7 +11,7 @@ use fields::Fields;
 use rules::{Answer, CallRecord};
 
 // What the reader answers: granted with the record's length and call, or refused with zeros.
-#[derive(Drop)]
+#[derive(Clone, Copy)]
 pub struct RecordRead {
     pub answer: Answer,
     pub length: usize,
@@ -17,7 +19,7 @@ pub struct RecordRead {
 }
 
 // The map and the fields that bytes hold, and the position past the last.
-#[derive(Drop)]
+#[derive(Clone, Copy)]
 struct Found {
     map: u32,
     values: Fields,

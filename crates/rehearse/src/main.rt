@@ -1,4 +1,6 @@
 // Reads a day of calls in words from standard input, and prints each line with its answer.
+#![tactic(auto)]
+
 use cells::Book;
 use rehearse_lines::Found;
 use rehearse_text::{Numbers, byte_at};

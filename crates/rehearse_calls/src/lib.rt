@@ -1,4 +1,6 @@
 // The call that a line makes. Its numbers fit their fields.
+#![tactic(auto)]
+
 ghost use Rattle.std.specs.Prelude.{◌≡◌, ◌≤◌};
 ghost use Rattle.answers.specs.Promises.{Opens, Answers};
 ghost use Rattle.rehearse_numbers.specs.Fields.{byte_at, two_at, four_at};

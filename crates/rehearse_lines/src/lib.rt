@@ -3,6 +3,8 @@
 // In a pattern a letter begins a word, and / stands for the word direction or profile. 1, 2 and 4 stand for a number of so many bytes, ? for MW that may be
 // left out, * for any count of directions, @ for a party code. A comma and a hyphen stand for themselves, a colon for itself or for no MW at all. = begins the
 // numbers expected, + stands for these, and ; ends the pattern.
+#![tactic(auto)]
+
 use rehearse_numbers::{Digits, digits_from, fits};
 use rehearse_text::{
     Numbers, and, byte_at, entry_at, is_break, is_letter, may_begin, none, number_at, past_byte,
@@ -71,7 +73,7 @@ pub const LONG: u8 = 5;
 pub const PASSED_ON: u8 = 6;
 
 // What stands in a line up to `at`, which fits the patterns up to `place`. The map of a profile's directions is its first number.
-#[derive(Drop)]
+#[derive(Clone, Copy)]
 pub struct Found {
     pub state: u8,
     pub kind: usize,

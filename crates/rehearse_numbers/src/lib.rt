@@ -1,9 +1,11 @@
 // The numbers of a line: what its digits mean, and which numbers a field holds.
+#![tactic(auto)]
+
 ghost use Rattle.std.specs.Prelude.{◌≡◌, ltb};
 ghost use Rattle.rehearse_numbers.specs.Decimal.{is_digit, Read, limit_of, capped};
 
 // A number, and the position past its digits. 2^32 stands for any number that is as large or larger.
-#[derive(Drop)]
+#[derive(Clone, Copy)]
 pub struct Digits {
     pub value: u64,
     pub end: usize,

@@ -1,4 +1,6 @@
 // The reads that a line makes, and the numbers of every answer.
+#![tactic(auto)]
+
 ghost use Rattle.answers.specs.Promises.{ReadsDirection, ReadsProfile, ReadsRight, ReadsConfirmed};
 ghost use Rattle.rehearse_numbers.specs.Fields.{byte_at, two_at};
 

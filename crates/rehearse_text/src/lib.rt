@@ -1,4 +1,6 @@
 // The bytes of a line that is read, numbers in a row, and the text of an answer, which is collected in a lent buffer.
+#![tactic(auto)]
+
 mod input;
 mod output;
 
@@ -12,7 +14,7 @@ pub use output::{TEXT, Text, fill_entry, put_byte, put_part, put_shown};
 pub const MOST: usize = 10;
 
 // Numbers in a row: all are counted, the first ten kept.
-#[derive(Drop)]
+#[derive(Clone, Copy)]
 pub struct Numbers {
     pub count: usize,
     pub values: [u64; 10],

@@ -1,4 +1,6 @@
 // What is said of a line: the numbers of its answer and these in words, or why it has none; the printing of it, and the count of lines.
+#![tactic(auto)]
+
 mod forms;
 
 use forms::{hours_of, put_weekday, put_word, say};
@@ -179,7 +181,7 @@ fn print(text: &Text, end: usize) -> bool {
 }
 
 // Lines so far. `count` bytes of the next are there; `opened` says whether an open was called, `printed` whether all was printed.
-#[derive(Drop)]
+#[derive(Clone, Copy)]
 pub struct Run {
     pub count: usize,
     pub opened: bool,

@@ -1,4 +1,6 @@
 // The table of rights: the standing right of a holder, direction and session, and new rights.
+#![tactic(auto)]
+
 ghost use Rattle.std.specs.Prelude.{◌≡◌, ◌<◌};
 ghost use Rattle.rules.specs.Book.{right_limit};
 ghost use Rattle.rules.specs.Bids.{is_right_of};
@@ -10,7 +12,7 @@ use cells::{Book, Found};
 use rules::Session;
 
 // What a bid finds in the table of rights: no room for it, room for a right more, or in a full table the right that takes its MW.
-#[derive(Drop)]
+#[derive(Clone, Copy)]
 pub enum Entry {
     Full,
     Room,

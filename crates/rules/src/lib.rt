@@ -1,4 +1,6 @@
 // The types that the day book's crates share. The rules of documents 01 and 02 over them stand in specs/, what follows from them in proofs/.
+#![tactic(auto)]
+
 ghost use Rattle.std.specs.Prelude.{◌≡◌, ◌-◌};
 
 // The last minute that the clock counts.
@@ -8,15 +10,15 @@ pub const LATEST: u32 = 2999;
 pub const MOST_MW: u16 = 9999;
 
 // A session's number. Only the session rule turns it into an hour.
-#[derive(Drop)]
+#[derive(Clone, Copy)]
 pub struct Session(pub u8);
 
 // An hour's position in the day, from 1.
-#[derive(Drop)]
+#[derive(Clone, Copy)]
 pub struct Hour(pub u8);
 
 // Where a time stands to a window: before its opening, within it, at or after its end.
-#[derive(Drop)]
+#[derive(Clone, Copy)]
 pub enum Timing {
     Early,
     Within,
@@ -24,14 +26,14 @@ pub enum Timing {
 }
 
 // What is short in an hour: the bid's direction, or a profile that holds it, by number.
-#[derive(Drop)]
+#[derive(Clone, Copy)]
 pub enum CapacityOf {
     Direction,
     Profile(u8),
 }
 
 // The answer to a call: granted with its detail, or a refusal by its trade word. The refusals stand in the order in which they are asked.
-#[derive(Drop)]
+#[derive(Clone, Copy)]
 pub enum Answer {
     Granted(u32),
     Record,
@@ -52,7 +54,7 @@ pub enum Answer {
 }
 
 // An answer's number, 0 for granted, and its two details.
-#[derive(Drop)]
+#[derive(Clone, Copy)]
 pub struct ReplyNumbers {
     pub number: u8,
     pub first: u32,
@@ -60,7 +62,7 @@ pub struct ReplyNumbers {
 }
 
 // The call of a record: its kind, 1 to 5, and its fields; a field that the kind lacks is 0.
-#[derive(Drop)]
+#[derive(Clone, Copy)]
 pub struct CallRecord {
     pub kind: u8,
     pub time: u16,

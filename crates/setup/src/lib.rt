@@ -1,4 +1,6 @@
 // Set-up: directions, profiles, and what every addition shares. Each promise is an equation with the rules, whatever the cells hold.
+#![tactic(auto)]
+
 ghost use Rattle.std.specs.Prelude.{◌≡◌, ◌||◌, not, ◌+◌, ◌*◌, ◌^◌, ◌<◌, ◌≤◌, ltb, leb, eqb, length};
 ghost use Rattle.std.specs.Int.Count.{ones};
 ghost use Rattle.rules.specs.Calls.{AddDirection, AddProfile};

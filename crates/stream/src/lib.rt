@@ -1,4 +1,6 @@
 // The step of the program `dayrun` that answers a call record, and all steps in a row.
+#![tactic(auto)]
+
 ghost use Rattle.std.specs.Prelude.{◌+◌, ◌≤◌, length};
 ghost use Rattle.dayrun_progress.specs.States.{text_size, line_size, Fits};
 ghost use Rattle.stream.specs.Running.{AnswersNext};

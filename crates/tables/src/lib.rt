@@ -1,4 +1,6 @@
 // The reads of single cells of the tables: a direction, a right, the MW of an hour, a matched session.
+#![tactic(auto)]
+
 ghost use Rattle.std.specs.Prelude.{◌≡◌, ◌+◌, ◌<◌, get_or};
 ghost use Rattle.rules.specs.Book.{place, left_at, shortfall_at, direction_limit, right_limit};
 ghost use Rattle.rules.specs.Refusals.{is_matched};

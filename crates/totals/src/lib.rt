@@ -1,4 +1,6 @@
 // The pairs of one right, gathered and lent as a slice of structs, and the sums over it of the lower sides, one for each hour of the session.
+#![tactic(auto)]
+
 ghost use Rattle.std.specs.Prelude.{◌≡◌, ◌+◌, ◌<◌, ◌≤◌, ◌^◌, min, length, take};
 ghost use Rattle.rules.specs.Basics.{five};
 ghost use Rattle.rules.specs.Book.{pair_limit};
@@ -11,13 +13,13 @@ use cells::Book;
 const MOST: usize = 512;
 
 // A pair of a right: the lower of its two sides in each hour of the session.
-#[derive(Drop)]
+#[derive(Clone, Copy)]
 struct PairLower {
     lower: [u32; 5],
 }
 
 // The pairs of one right: the first `count` of the array.
-#[derive(Drop)]
+#[derive(Clone, Copy)]
 struct PairList {
     pairs: [PairLower; MOST],
     count: usize,

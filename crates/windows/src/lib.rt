@@ -1,4 +1,6 @@
 // Where a time stands to the windows of bids, nominations, offers and matchings: one function for each. No public function has a `requires`: each answers for any numbers, as the rules do.
+#![tactic(auto)]
+
 ghost use Rattle.std.specs.Prelude.{◌≡◌, ◌+◌, ◌*◌, ◌≤◌};
 ghost use Rattle.rules.specs.Sessions.{first_hour};
 ghost use Rattle.rules.specs.Windows.{timing, gate_hour, opens, held, bid_timing, nomination_timing, offer_timing, matching_timing};
