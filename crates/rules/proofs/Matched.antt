@@ -11,7 +11,7 @@ use lib.ListN.{length, get_or, length-set, length-replicate, get_or-replicate}
 use borrow.Author.Tests.{leb-false, not-false}
 use Rattle.rules.specs.Basics.{has}
 use Rattle.rules.specs.Sessions.{session_there}
-use Rattle.rules.specs.Book.{Day, Direction, Right, Book, flag, direction, right, opened, model_of}
+use Rattle.rules.specs.Book.{Day, Direction, Right, Book, flag, right, opened, model_of}
 use Rattle.rules.specs.Calls.{Call, AddDirection, AddProfile, AddParty, OfferDirection, OfferProfile, Bid, Nominate, Match}
 use Rattle.rules.specs.Refusals.{order, refuses, unknown, is_matched}
 use Rattle.rules.specs.Effects.{matched_after, effect}

@@ -1,6 +1,6 @@
 -- 01, Offers and bids: the search for a shortage, granted MW, rights.
 -- Assumes nothing.
-use Rattle.std.specs.Prelude.{ℕ, suc, ◌+◌, ◌-◌, ◌*◌, ◌/◌, ◌%◌, ◌^◌, Bool, true, false, cond, ◌||◌, ◌&&◌, List, [], ◌∷◌, ◌++◌, ltb, eqb, length}
+use Rattle.std.specs.Prelude.{ℕ, suc, ◌+◌, ◌/◌, ◌%◌, ◌^◌, Bool, true, false, cond, ◌||◌, ◌&&◌, List, [], ◌∷◌, ◌++◌, ltb, eqb, length}
 use Rattle.rules.specs.Basics.{bit, mw_at}
 use Rattle.rules.specs.Book.{Right, Book, of_profile, holds, left_at}
 

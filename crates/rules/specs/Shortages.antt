@@ -1,6 +1,6 @@
 -- 01, Offers and bids: what refusal 15 says, and when it is given.
 -- Assumes nothing.
-use Rattle.std.specs.Prelude.{ℕ, suc, ◌+◌, ◌≤◌, ◌<◌, ◌≡◌, true, List, [], ◌∷◌, get_or}
+use Rattle.std.specs.Prelude.{ℕ, ◌+◌, ◌≤◌, ◌<◌, ◌≡◌, true, List, get_or}
 use Rattle.rules.specs.Basics.{bit}
 use Rattle.rules.specs.Sessions.{first_hour}
 use Rattle.rules.specs.Book.{Book, holds, left_at, of_profile, model_of}

@@ -1,4 +1,2 @@
-pub mod Rest
-pub mod Prefix
 pub mod Sums
 pub mod Gathering

@@ -58,7 +58,8 @@ fn total_lower(list: &[PairLower]) -> [u64; 5]
     let mut sums = [0u64; 5];
     let mut i: usize = 0;
     while i < list.len() {
-        sums = with_lower(sums, list[i]);
+        let next = with_lower(sums, list[i]);
+        sums = next;
         i = i + 1;
     }
     sums

@@ -1,0 +1,25 @@
+-- `answers::has_access` meets its contract.
+-- Assumes nothing.
+use Prim.Native.Nat.{ℕ, ◌^◌, ◌≤◌, ◌<◌}
+use mathlib.Core.Path.{◌≡◌, refl}
+use mathlib.Core.Bool.{false}
+use native.Mathlib.Nat.{le_trans, div-eq_of_lt}
+use lib.Pow.{pow_mono}
+use native.Mathlib.Omega.{arith}
+use borrow.Author.Tests.{le-ltb}
+use Rattle.rules.specs.Basics.{bit}
+use borrow.Author.Rules.{rules}
+use Rattle.answers.proofs.has_access.Goals as goal
+
+-- a number of 32 bits has no bit past them
+far-bit : (map i : ℕ) → map < 2 ^ 32 → 32 ≤ i → bit map i ≡ false
+unfolding bit
+far-bit map i l h = rw (div-eq_of_lt (le_trans l (pow_mono h)))
+
+pub returns-then-operator-lt32 : goal.returns-then-operator-lt32
+unfolding bit
+returns-then-operator-lt32 c = refl
+
+pub returns-else-operator-lt32 : goal.returns-else-operator-lt32
+returns-else-operator-lt32 c = let l : c.args.map < 2 ^ 32 = omega arith in
+    rw (far-bit c.args.map c.args.operator l c.if-operator-lt32.false) (le-ltb _ 32 c.if-operator-lt32.false)

@@ -1,0 +1,18 @@
+-- `capacity::add_five` meets its contract.
+-- Assumes nothing.
+use Rattle.std.proofs.Common.{◌≡◌, ◌+◌, ◌-◌, ◌≤◌, sym, refl, ◌∙◌, rules}
+use Rattle.cells.specs.Loops.{repeated}
+use Rattle.stores.specs.Bids.{added_five, added_next}
+use Rattle.cells.proofs.Turns.{repeated_next, repeated_done}
+use Rattle.capacity.proofs.add_five.Goals as goal
+
+pub loop-k-init : goal.loop-k-init
+unfolding added_five
+loop-k-init c = (search rules, refl)
+
+pub loop-k-preserved : goal.loop-k-preserved
+unfolding added_next
+loop-k-preserved c = (search rules, rw c.add.ensures (c.loop-k.invariant.1 ∙ repeated_next _ _ _ _ c.loop-k-test.true))
+
+pub returns : goal.returns
+returns c = sym (c.loop-k.invariant.1 ∙ repeated_done _ _ _ _ c.loop-k-test.false)

@@ -1,0 +1,19 @@
+-- `capacity::grant_hours` meets its contract.
+-- Assumes nothing.
+use Rattle.std.proofs.Common.{◌≡◌, ◌+◌, ◌-◌, ◌≤◌, sym, ◌∙◌, rules}
+use Rattle.rules.specs.Book.{profile_limit}
+use Rattle.cells.specs.Loops.{repeated}
+use Rattle.stores.specs.Bids.{granted_hours, granted_next}
+use Rattle.cells.proofs.Turns.{repeated_start, repeated_next, repeated_done}
+use Rattle.capacity.proofs.grant_hours.Goals as goal
+
+pub loop-k-init : goal.loop-k-init
+unfolding granted_hours
+loop-k-init c = (search rules, repeated_start _ _ _)
+
+pub loop-k-preserved : goal.loop-k-preserved
+unfolding granted_next
+loop-k-preserved c = (search rules, rw c.grant_hour.ensures (c.loop-k.invariant.1 ∙ repeated_next _ _ _ _ c.loop-k-test.true))
+
+pub returns : goal.returns
+returns c = rw (← c.profile_count-profiles.ensures.0) (sym (c.loop-k.invariant.1 ∙ repeated_done _ _ _ _ c.loop-k-test.false))

@@ -1,0 +1,14 @@
+-- `capacity::grant_hours` meets its contract.
+-- Assumes nothing.
+use Rattle.std.proofs.Common.{◌≡◌, ◌+◌, ◌-◌, ◌≤◌, sym, ◌∙◌, rules}
+use Rattle.rules.specs.Book.{profile_limit}
+use Rattle.cells.specs.Loops.{repeated}
+use Rattle.stores.specs.Bids.{granted_hours, granted_next}
+use Rattle.cells.proofs.Turns.{repeated_start, repeated_next, repeated_done}
+use Rattle.capacity.proofs.grant_hours.Given as goal
+
+abbrev pub invariant-loop-k : goal.invariant-loop-k
+invariant-loop-k l = ((l.k ≤ l.count) × (l.profiles ≤ profile_limit)) × (granted_hours l.profiles l.direction l.start l.count l.mw l.initial.book ≡ repeated (granted_next l.profiles l.direction l.start l.mw) (l.count - l.k) l.k l.book)
+
+abbrev pub decreases-loop-k : goal.decreases-loop-k
+decreases-loop-k l = l.count - l.k

@@ -1,0 +1,40 @@
+-- `capacity::shortage` meets its contract.
+-- Assumes nothing.
+use Rattle.std.proofs.Common.{◌≡◌, ◌+◌, ◌-◌, ◌<◌, ◌≤◌, sym, refl, ◌∙◌, rules}
+use Rattle.capacity.specs.declared.Search.TheVariants.{Enough}
+use Rattle.cells.specs.Loops.{each}
+use Rattle.capacity.specs.Search.{shortage_in, try_hour, try_profile}
+use Rattle.cells.proofs.Turns.{each_start, each_next, each_done, told_true, told_false}
+use Rattle.capacity.proofs.shortage.Goals as goal
+
+pub hours-init : goal.hours-init
+unfolding shortage_in
+hours-init c = (search rules, refl, each_start _ _ _)
+
+pub profiles-init : goal.profiles-init
+unfolding try_hour
+profiles-init c = let at = c.hours in
+    (search rules, at.invariant.1, at.invariant.2 ∙ each_next _ _ _ _ c.hours-test.true ∙ told_false _ _ c.is_short.ensures c.if-is_short.false ∙ rw (← c.profile_count-profiles.ensures.0) (each_start _ _ _))
+
+pub profiles-preserved : goal.profiles-preserved
+unfolding try_profile
+profiles-preserved c = let at = c.profiles in
+    (search rules, at.invariant.1, at.invariant.2 ∙ each_next _ _ _ _ c.profiles-test.true ∙ told_false _ _ c.profile_short.ensures c.if-profile_short.false)
+
+pub hours-preserved : goal.hours-preserved
+hours-preserved c = let at = c.profiles in
+    (search rules, at.invariant.1, at.invariant.2 ∙ each_done _ _ _ _ c.profiles-test.false)
+
+pub returns-after-hours : goal.returns-after-hours
+returns-after-hours c = let at = c.hours in
+    at.invariant.1 ∙ sym (at.invariant.2 ∙ each_done _ _ _ _ c.hours-test.false)
+
+pub returns-then-is_short : goal.returns-then-is_short
+unfolding try_hour
+returns-then-is_short c = let at = c.hours in
+    sym (at.invariant.2 ∙ each_next _ _ _ _ c.hours-test.true ∙ told_true _ _ c.is_short.ensures c.if-is_short.true)
+
+pub returns-then-profile_short : goal.returns-then-profile_short
+unfolding try_profile
+returns-then-profile_short c = let at = c.profiles in
+    sym (at.invariant.2 ∙ each_next _ _ _ _ c.profiles-test.true ∙ told_true _ _ c.profile_short.ensures c.if-profile_short.true)

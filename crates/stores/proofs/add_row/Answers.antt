@@ -1,0 +1,9 @@
+-- `stores::add_row` meets its contract.
+-- Assumes nothing.
+use borrow.Author.Rules.{rules}
+use Rattle.stores.specs.Stores.{with_row}
+use Rattle.stores.proofs.add_row.Goals as goal
+
+pub returns : goal.returns
+unfolding with_row
+returns c = rw c.write_cells.ensures

@@ -1,0 +1,8 @@
+-- `tables::shortfall_at` meets its contract.
+-- Assumes nothing.
+use Rattle.cells.proofs.Views.{shortfall_at_lem}
+use borrow.Author.Rules.{rules}
+use Rattle.tables.proofs.shortfall_at.Goals as goal
+
+pub returns : goal.returns
+returns c = rw (c.less.ensures, c.granted_at-granted.ensures, c.offered_at-offered.ensures, shortfall_at_lem c.args.book.now _ _ c.requires)

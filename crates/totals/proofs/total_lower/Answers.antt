@@ -1,0 +1,26 @@
+-- `totals::total_lower` meets its contract: with one pair more, the sums are those of one pair more.
+-- Assumes nothing.
+use Rattle.std.proofs.Common.{◌≡◌, ℕ, ◌+◌, ◌*◌, ◌≤◌, ◌<◌, refl, sym, ◌∙◌, ap, List, [], length, take, get_or, arith}
+use Rattle.rules.specs.Basics.{five}
+use Rattle.totals.specs.Total.{Most, sum_in, sum_of, totals}
+use Rattle.totals.proofs.Sums.{totals_next, most_next}
+use Rattle.totals.specs.declared.PairLower.{PairLower}
+use Rattle.totals.proofs.total_lower.Goals as goal
+
+-- what stands for an element where there is none
+abbrev none : PairLower
+none = record { lower = [] }
+
+pub loop-i-init : goal.loop-i-init
+unfolding sum_of
+loop-i-init c = (omega arith, refl, record { first = omega arith; second = omega arith; third = omega arith; fourth = omega arith; fifth = omega arith })
+
+turn : (l : List PairLower) (i : ℕ) (sums after : List ℕ) → i < length l → (i ≤ length l) × (sums ≡ totals (take i l)) × Most (i * 4294967295) sums
+    → (after ≡ five (sum_in sums (get_or l i none))) × Most 4294967295 (get_or l i none).lower
+    → (i + 1 ≤ length l) × (after ≡ totals (take (i + 1) l)) × Most ((i + 1) * 4294967295) after
+turn l i sums after h inv e =
+    let next : after ≡ totals (take (i + 1) l) = e.0 ∙ rw inv.1 (totals_next l i none h) in
+    (omega arith, next, rw next (most_next l i none h (rw inv.1 at inv.2) e.1))
+
+pub loop-i-preserved : goal.loop-i-preserved
+loop-i-preserved c = turn c.args.list.now c.loop-i.i c.loop-i.sums c.with_lower-next.result c.loop-i-test.true c.loop-i.invariant c.with_lower-next.ensures
