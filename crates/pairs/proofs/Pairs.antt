@@ -18,7 +18,7 @@ use Rattle.cells.specs.declared.Found.{Found}
 use Rattle.cells.specs.declared.Found.TheVariants.{At, Nothing}
 use Rattle.stores.proofs.Firsts.{changed_there, changed_new}
 use Rattle.stores.proofs.Tables.{length-row}
-use Rattle.stores.proofs.Pairs.{with_pair, pair_more}
+use Rattle.stores.proofs.Pairs.{with_pair_lem, pair_more}
 use Rattle.cells.proofs.Views.{pair_count, pair_at_lem, has_room}
 use Rattle.pairs.specs.Search.{standing_pair}
 use Rattle.pairs.specs.Work.{is_missing, Enters, NewPair, PairThere}
@@ -53,7 +53,7 @@ found_there b r o i k u e =
       row = f.row;
       rest = refl;
       pair = λ side mw.
-          sym (with_pair r o i side mw (book_of b).pairs
+          sym (with_pair_lem r o i side mw (book_of b).pairs
           ∙ changed_there (is_pair_of r o i) (with_side side mw) _ (empty_pair r o i) (book_of b).pairs (rw (p, pair_count b) f.row)
           ∙ rw p (ap (λ (x : Pair). set (book_of b).pairs k (with_side side mw x)) (pair_at_lem b k (empty_pair r o i) f.row)));
     }
@@ -94,5 +94,5 @@ module _ (b : List ℕ) (r o i : ℕ) (e : standing_pair b r o i ≡ Nothing) wh
           rest = opened_book ∙ ap (λ (x : List Pair). with_pairs (book_of b) x) (sym opened_pairs);
           pair = λ side mw.
               rw (opened_pairs, opened_pair, here) (set-append_seam (book_of b).pairs (empty_pair r o i) [] (with_side side mw (empty_pair r o i)))
-              ∙ sym (with_pair r o i side mw (book_of b).pairs ∙ changed_new (is_pair_of r o i) (with_side side mw) _ (book_of b).pairs (standing_none b r o i e).past);
+              ∙ sym (with_pair_lem r o i side mw (book_of b).pairs ∙ changed_new (is_pair_of r o i) (with_side side mw) _ (book_of b).pairs (standing_none b r o i e).past);
         }

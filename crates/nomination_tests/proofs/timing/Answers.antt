@@ -1,0 +1,8 @@
+-- `nomination_tests::timing` meets its contract.
+-- Assumes nothing.
+use borrow.Author.Rules.{rules}
+use Rattle.nomination_tests.proofs.Tests.{timing_is}
+use Rattle.nomination_tests.proofs.timing.Goals as goal
+
+pub returns : goal.returns
+returns c = timing_is _ _ c.requires _ _ _ _ _ _ c.hours-hours.ensures c.weekday-weekday.ensures c.right_model-model.ensures c.right_session-session.ensures c.nomination_timing.ensures

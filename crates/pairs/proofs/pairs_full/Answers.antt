@@ -1,0 +1,11 @@
+-- `pairs::pairs_full` meets its contract.
+-- Assumes nothing.
+use Rattle.pairs.proofs.Pairs.{full_at, there_is_one}
+use borrow.Author.Rules.{rules}
+use Rattle.pairs.proofs.pairs_full.Goals as goal
+
+pub returns-in_default : goal.returns-in_default
+returns-in_default c = full_at _ _ _ c.count_in.ensures c.in_default.is
+
+pub returns : goal.returns
+returns c = there_is_one _ _ _ c.in-At.is

@@ -1,0 +1,21 @@
+-- `rights::book_right` meets its contract.
+-- Assumes nothing.
+use mathlib.Core.Path.{sym, ◌∙◌}
+use native.Mathlib.Omega.{arith}
+use Rattle.rights.proofs.Rights.{has_room, opened_books, below, raised_books}
+use borrow.Author.Rules.{rules}
+use Rattle.rights.proofs.book_right.Goals as goal
+
+pub open_right-requires : goal.open_right-requires
+open_right-requires c = has_room f.before.before.before.before.requires (sym c.right_by_entry.ensures ∙ c.in_default.is)
+
+pub returns-in_default : goal.returns-in_default
+returns-in_default c = let n = sym c.right_by_entry.ensures ∙ c.in_default.is in
+    opened_books _ _ _ _ _ _ n _ _ (has_room f.before.before.before.before.requires n) c.open_right.ensures
+
+pub add_five-requires : goal.add_five-requires
+add_five-requires c = let l = below _ _ _ _ _ _ (sym c.right_by_entry.ensures ∙ c.in-At.is) in
+    omega arith
+
+pub returns : goal.returns
+returns c = rw c.add_five.ensures (raised_books _ _ _ _ _ _ _ (sym c.right_by_entry.ensures ∙ c.in-At.is) c.cells_in.ensures.count (search rules))

@@ -1,0 +1,9 @@
+-- `rights::right_by_entry` meets its contract.
+-- Assumes nothing.
+use mathlib.Core.Path.{sym}
+use Rattle.rights.proofs.Rights.{entered_at}
+use borrow.Author.Rules.{rules}
+use Rattle.rights.proofs.right_by_entry.Goals as goal
+
+pub returns : goal.returns
+returns c = sym (entered_at c.requires _ c.in-Standing.is)
