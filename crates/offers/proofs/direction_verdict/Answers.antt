@@ -45,3 +45,8 @@ returns c =
     let knows : let a = c.args in Known a.book.now a.direction a.hour.0 = (known _ _ _ (told c.direction_hour_unknown.ensures c.if-direction_hour_unknown.false)) in
     let timing_is : let a = c.args in c.timing.result ≡ timing_of (book_of a.book.now) (OfferDirection a.time a.direction a.hour.0 a.mw) = (rw (model_at _ _ knows.direction, ← c.model_of-model.ensures) c.timing.ensures) in
     rw c.window_verdict.ensures (window_last after3 timing_is)
+
+pub model_of-model-requires : goal.model_of-model-requires
+model_of-model-requires c = 
+    let knows : let a = c.args in Known a.book.now a.direction a.hour.0 = (known _ _ _ (told c.direction_hour_unknown.ensures c.if-direction_hour_unknown.false)) in
+    knows.row

@@ -16,5 +16,15 @@ returns-in-No c = refused _ _ _ (subst (Judged _ _) c.in-No.is c.profile_verdict
 
 pub returns-in-Clear : goal.returns-in-Clear
 returns-in-Clear c = 
-    let clear : let a = c.before.before.before.before.before.args in number (book_of a.book.now) (OfferProfile a.time a.profile a.hour.0 a.mw) ≡ 0 = (subst (Judged _ _) c.in-Clear.is c.profile_verdict-verdict.ensures) in
+    let clear : let a = c.args in number (book_of a.book.now) (OfferProfile a.time a.profile a.hour.0 a.mw) ≡ 0 = (subst (Judged _ _) c.in-Clear.is c.profile_verdict-verdict.ensures) in
     offer_answers _ _ (of_profile_lem _ _ _ _) (profile_there _ _ _ _ _ clear).row clear c.place_offer.ensures
+
+pub overflow_add-profile : goal.overflow_add-profile
+overflow_add-profile c = 
+    let clear : let a = c.args in number (book_of a.book.now) (OfferProfile a.time a.profile a.hour.0 a.mw) ≡ 0 = (subst (Judged _ _) c.in-Clear.is c.profile_verdict-verdict.ensures) in
+    let k = (profile_there _ _ _ _ _ clear).profile in omega arith
+
+pub place_offer-requires : goal.place_offer-requires
+place_offer-requires c = 
+    let clear : let a = c.args in number (book_of a.book.now) (OfferProfile a.time a.profile a.hour.0 a.mw) ≡ 0 = (subst (Judged _ _) c.in-Clear.is c.profile_verdict-verdict.ensures) in
+    (profile_there _ _ _ _ _ clear).row

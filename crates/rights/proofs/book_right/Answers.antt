@@ -7,11 +7,11 @@ use borrow.Author.Rules.{rules}
 use Rattle.rights.proofs.book_right.Goals as goal
 
 pub open_right-requires : goal.open_right-requires
-open_right-requires c = has_room f.before.before.before.before.requires (sym c.right_by_entry.ensures ∙ c.in_default.is)
+open_right-requires c = has_room c.requires (sym c.right_by_entry.ensures ∙ c.in_default.is)
 
 pub returns-in_default : goal.returns-in_default
 returns-in_default c = let n = sym c.right_by_entry.ensures ∙ c.in_default.is in
-    opened_books _ _ _ _ _ _ n _ _ (has_room f.before.before.before.before.requires n) c.open_right.ensures
+    opened_books _ _ _ _ _ _ n _ _ (has_room c.requires n) c.open_right.ensures
 
 pub add_five-requires : goal.add_five-requires
 add_five-requires c = let l = below _ _ _ _ _ _ (sym c.right_by_entry.ensures ∙ c.in-At.is) in

@@ -1,0 +1,24 @@
+-- `marks::side_totals` meets its contract.
+-- Assumes nothing.
+use mathlib.Core.Path.{◌≡◌}
+use Prim.Native.Nat.{ℕ, ◌≤◌, ◌<◌, ◌+◌, ◌-◌}
+use native.Mathlib.Omega.{arith}
+use lib.ListN.{get_or}
+use borrow.Author.Rules.{rules}
+use Rattle.rules.specs.Book.{pair_limit}
+use Rattle.rules.specs.Nominations.{side_total}
+use Rattle.cells.specs.Loops.{each}
+use Rattle.cells.specs.View.{book_of}
+use Rattle.marks.specs.Totals.{add_pair, Bounded}
+use Rattle.marks.proofs.Sums.{zeros, sum_start, sum_next, sum_done}
+use Rattle.marks.proofs.side_totals.Goals as goal
+
+pub loop-i-init : goal.loop-i-init
+loop-i-init c = (omega (arith, c.count_in-count.ensures), (λ hour l. omega (arith, zeros hour l), λ hour l. sum_start _ _ _ hour _ c.count_in-count.ensures _ (zeros hour l)))
+
+pub loop-i-preserved : goal.loop-i-preserved
+loop-i-preserved c = let a = c.with_share-next.ensures in
+    (search rules, (a.bounded, λ hour l. sum_next _ _ _ hour _ _ _ _ (c.loop-i.invariant.1.1 hour l) _ c.loop-i-test.true (a.sums_are hour l)))
+
+pub returns : goal.returns
+returns c = record { totals_are = λ hour l. sum_done _ _ _ hour _ _ _ _ (c.loop-i.invariant.1.1 hour l) c.loop-i-test.false }

@@ -1,0 +1,13 @@
+-- `marks::with_share` meets its contract.
+-- Assumes nothing.
+use Prim.Native.Nat.{◌-◌, ◌≤◌}
+use native.Mathlib.Omega.{arith}
+use borrow.Author.Rules.{rules}
+use Rattle.marks.proofs.Sums.{AddedTo, none_added, no_hour_added, hour_added, all_added}
+use Rattle.marks.proofs.with_share.Given as goal
+
+abbrev pub invariant-loop-position : goal.invariant-loop-position
+invariant-loop-position l = (l.position ≤ 5) × AddedTo l.book l.i l.right l.side l.totals l.position l.sums
+
+abbrev pub decreases-loop-position : goal.decreases-loop-position
+decreases-loop-position l = 5 - l.position
