@@ -1,5 +1,7 @@
 -- `confirmed::confirmed_of` meets its contract.
 -- Assumes nothing.
+use mathlib.Core.Bool.{not}
+use mathlib.Core.Path.{ap}
 use Prim.Native.Nat.{◌<◌}
 use mathlib.Core.Path.{◌≡◌, sym, ◌∙◌}
 use native.Mathlib.Omega.{arith}
@@ -26,7 +28,7 @@ returns-then-not-is_matched c =
     let found : let a = c.args in Standing a.book.now a.right a.out a.into c.in-At.i = (standing_at _ _ _ _ _ (sym c.standing_pair.ensures ∙ c.in-At.is)) in
     let matched : let a = c.args in
     c.is_matched.result ≡ is_matched (book_of a.book.now).matched (right_at a.book.now a.right).direction (right_at a.book.now a.right).session = (session_is _ _ c.is_matched.ensures c.right_direction-direction.ensures c.right_session-session.ensures) in
-    record { reply = rw c.refused-then-not-is_matched.ensures (not_matched _ _ _ _ known found.there matched c.if-not-is_matched.true) }
+    record { reply = rw c.refused-then-not-is_matched.ensures (not_matched _ _ _ _ known found.there matched (ap not c.if-not-is_matched.true)) }
 
 pub confirmed_five-mw-requires : goal.confirmed_five-mw-requires
 confirmed_five-mw-requires c = 
@@ -41,4 +43,4 @@ returns c =
     let found : let a = c.args in Standing a.book.now a.right a.out a.into c.in-At.i = (standing_at _ _ _ _ _ (sym c.standing_pair.ensures ∙ c.in-At.is)) in
     let matched : let a = c.args in
     c.is_matched.result ≡ is_matched (book_of a.book.now).matched (right_at a.book.now a.right).direction (right_at a.book.now a.right).session = (session_is _ _ c.is_matched.ensures c.right_direction-direction.ensures c.right_session-session.ensures) in
-    record { reply = rw c.confirmed_five-mw.ensures (granted_read _ _ _ _ known _ found.there found.pair_is matched c.if-not-is_matched.false) }
+    record { reply = rw c.confirmed_five-mw.ensures (granted_read _ _ _ _ known _ found.there found.pair_is matched (ap not c.if-not-is_matched.false)) }

@@ -1,0 +1,22 @@
+-- `bids::bid_unknown` meets its contract.
+-- Assumes nothing.
+use native.Mathlib.Omega.{arith}
+use Rattle.cells.proofs.Views.{known_direction, session_unknown_lem}
+use Rattle.answers.proofs.Laws.{told}
+use borrow.Author.Rules.{rules}
+use Rattle.bids.proofs.bid_unknown.Goals as goal
+
+pub returns-then-party_unknown : goal.returns-then-party_unknown
+returns-then-party_unknown c = rw (← c.party_unknown.ensures, c.if-party_unknown.true)
+
+pub returns-then-direction_unknown : goal.returns-then-direction_unknown
+returns-then-direction_unknown c = rw (← c.party_unknown.ensures, c.if-party_unknown.false, ← c.direction_unknown.ensures, c.if-direction_unknown.true)
+
+pub model_of-model-requires : goal.model_of-model-requires
+model_of-model-requires c = let l = known_direction _ _ (told c.direction_unknown.ensures c.if-direction_unknown.false) in
+    omega arith
+
+pub returns : goal.returns
+returns c = let l = known_direction _ _ (told c.direction_unknown.ensures c.if-direction_unknown.false) in
+    rw (← c.party_unknown.ensures, c.if-party_unknown.false, ← c.direction_unknown.ensures, c.if-direction_unknown.false, c.session_there.ensures)
+    (session_unknown_lem _ _ _ _ _ c.hours-hours.ensures c.model_of-model.ensures l)
