@@ -71,8 +71,8 @@ pub full_told : (b : List ℕ) (model h d s : ℕ) {e : Entry} {x : Bool} → e 
 full_told b model h d s q f = sym (full_is b model h d s) ∙ ap is_full (sym q) ∙ f
 
 -- what the code's test for a full table leaves
-pub not_full : (e : Entry) → OneOf (1 ∷ 2 ∷ []) (tag_of the_type e) → is_full e ≡ false
-not_full Full h = absurd (⊎_elim (λ z. omega arith) (λ z. omega arith) h)
+pub not_full : (e : Entry) → (e ≡ Full → ⊥) → is_full e ≡ false
+not_full Full h = absurd (h refl)
 not_full Room h = refl
 not_full (Standing i) h = refl
 

@@ -14,4 +14,4 @@ pub returns-in-No : goal.returns-in-No
 returns-in-No c = refused _ _ _ (subst (JudgedBid _ _ _ _ _ _) c.in-No.is c.bid_verdict-verdict.ensures)
 
 pub returns-in-Clear : goal.returns-in-Clear
-returns-in-Clear c = bid_answers _ _ _ _ _ _ _ _ (place-bid-requires «PLACE» c.lifetimes).clear c.place_bid.ensures
+returns-in-Clear c = bid_answers _ _ _ _ _ _ _ _ (subst (JudgedBid _ _ _ _ _ _) c.in-Clear.is c.bid_verdict-verdict.ensures).clear c.place_bid.ensures

@@ -114,7 +114,7 @@ pub returns-in-Short : goal.returns-in-Short
 unfolding refuses field clock unknown timing_of wrong_hours hours_lacking full
 returns-in-Short c = 
     let knows : let a = c.args in KnownBid a.book.now a.party a.direction a.session.0 = (known_bid _ _ _ _ (told c.bid_unknown.ensures c.if-bid_unknown.false)) in
-    let enters : let a = c.args in Enters a.book.now (direction_at a.book.now a.direction).model a.party a.direction a.session.0 c.entry_of-entry.result = (record { entry_is = c.entry_of-entry.ensures ∙ rw c.model_of-model.ensures; free = not_full c.entry_of-entry.result c.in_default-entry.keys2 }) in
+    let enters : let a = c.args in Enters a.book.now (direction_at a.book.now a.direction).model a.party a.direction a.session.0 c.entry_of-entry.result = (record { entry_is = c.entry_of-entry.ensures ∙ rw c.model_of-model.ensures; free = not_full c.entry_of-entry.result c.in_default-entry.not-Full }) in
     let start : (Left (book_of c.args.book.now) (Bid c.args.time c.args.party c.args.direction c.args.session.0 c.args.mw) (3 ∷ 5 ∷ 6 ∷ 16 ∷ 8 ∷ 9 ∷ 10 ∷ 13 ∷ 15 ∷ [])) = (bid_left _ _ _ _ _ _) in
     let after1 : (Left (book_of c.args.book.now) (Bid c.args.time c.args.party c.args.direction c.args.session.0 c.args.mw) (5 ∷ 6 ∷ 16 ∷ 8 ∷ 9 ∷ 10 ∷ 13 ∷ 15 ∷ [])) = (pass start (told c.bid_field.ensures c.if-bid_field.false)) in
     let after2 : (Left (book_of c.args.book.now) (Bid c.args.time c.args.party c.args.direction c.args.session.0 c.args.mw) (6 ∷ 16 ∷ 8 ∷ 9 ∷ 10 ∷ 13 ∷ 15 ∷ [])) = (pass after1 (told c.before_clock.ensures c.if-before_clock.false)) in
@@ -127,13 +127,13 @@ returns-in-Short c =
     pass after5 (access_is _ _ _ _ _ _ k ∙ told c.no_access.ensures c.if-no_access.false)) in
     let after7 : (Left (book_of c.args.book.now) (Bid c.args.time c.args.party c.args.direction c.args.session.0 c.args.mw) (15 ∷ [])) = (pass after6 (rw knows.model_is (full_told _ _ _ _ _ enters.entry_is enters.free))) in
     let judge : (JudgedBid c.args.book.now c.args.time c.args.party c.args.direction c.args.session.0 c.args.mw (verdict_of c.entry_of-entry.result c.bid_shortage-search.result)) = (judged _ _ _ _ _ _ _ c.bid_shortage-search.result after7 enters (shortage_is _ c.args.time _ _ _ _ _ _ knows c.model_of-model.ensures c.bid_shortage-search.ensures)) in
-    subst (Says «PLACE» _) c.in-Short.is judge
+    subst (λ (r : Search). JudgedBid c.args.book.now c.args.time c.args.party c.args.direction c.args.session.0 c.args.mw (verdict_of c.entry_of-entry.result r)) c.in-Short.is judge
 
 pub returns-in-Enough : goal.returns-in-Enough
 unfolding refuses field clock unknown timing_of wrong_hours hours_lacking full
 returns-in-Enough c = 
     let knows : let a = c.args in KnownBid a.book.now a.party a.direction a.session.0 = (known_bid _ _ _ _ (told c.bid_unknown.ensures c.if-bid_unknown.false)) in
-    let enters : let a = c.args in Enters a.book.now (direction_at a.book.now a.direction).model a.party a.direction a.session.0 c.entry_of-entry.result = (record { entry_is = c.entry_of-entry.ensures ∙ rw c.model_of-model.ensures; free = not_full c.entry_of-entry.result c.in_default-entry.keys2 }) in
+    let enters : let a = c.args in Enters a.book.now (direction_at a.book.now a.direction).model a.party a.direction a.session.0 c.entry_of-entry.result = (record { entry_is = c.entry_of-entry.ensures ∙ rw c.model_of-model.ensures; free = not_full c.entry_of-entry.result c.in_default-entry.not-Full }) in
     let start : (Left (book_of c.args.book.now) (Bid c.args.time c.args.party c.args.direction c.args.session.0 c.args.mw) (3 ∷ 5 ∷ 6 ∷ 16 ∷ 8 ∷ 9 ∷ 10 ∷ 13 ∷ 15 ∷ [])) = (bid_left _ _ _ _ _ _) in
     let after1 : (Left (book_of c.args.book.now) (Bid c.args.time c.args.party c.args.direction c.args.session.0 c.args.mw) (5 ∷ 6 ∷ 16 ∷ 8 ∷ 9 ∷ 10 ∷ 13 ∷ 15 ∷ [])) = (pass start (told c.bid_field.ensures c.if-bid_field.false)) in
     let after2 : (Left (book_of c.args.book.now) (Bid c.args.time c.args.party c.args.direction c.args.session.0 c.args.mw) (6 ∷ 16 ∷ 8 ∷ 9 ∷ 10 ∷ 13 ∷ 15 ∷ [])) = (pass after1 (told c.before_clock.ensures c.if-before_clock.false)) in
@@ -146,4 +146,4 @@ returns-in-Enough c =
     pass after5 (access_is _ _ _ _ _ _ k ∙ told c.no_access.ensures c.if-no_access.false)) in
     let after7 : (Left (book_of c.args.book.now) (Bid c.args.time c.args.party c.args.direction c.args.session.0 c.args.mw) (15 ∷ [])) = (pass after6 (rw knows.model_is (full_told _ _ _ _ _ enters.entry_is enters.free))) in
     let judge : (JudgedBid c.args.book.now c.args.time c.args.party c.args.direction c.args.session.0 c.args.mw (verdict_of c.entry_of-entry.result c.bid_shortage-search.result)) = (judged _ _ _ _ _ _ _ c.bid_shortage-search.result after7 enters (shortage_is _ c.args.time _ _ _ _ _ _ knows c.model_of-model.ensures c.bid_shortage-search.ensures)) in
-    subst (Says «PLACE» _) c.in-Enough.is judge
+    subst (λ (r : Search). JudgedBid c.args.book.now c.args.time c.args.party c.args.direction c.args.session.0 c.args.mw (verdict_of c.entry_of-entry.result r)) c.in-Enough.is judge
