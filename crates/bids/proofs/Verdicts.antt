@@ -1,8 +1,8 @@
 -- From the tests of a bid to the conditions of the rules.
 -- Assumes nothing.
-use Prim.Native.Nat.{ℕ, ◌+◌, ◌*◌, ◌≤◌, ◌<◌}
+use Prim.Native.Nat.{ℕ, ◌+◌, ◌*◌, ◌<◌}
 use mathlib.Core.Path.{◌≡◌, refl, sym, ap, ◌∙◌}
-use mathlib.Core.Bool.{true, false, ◌||◌, ◌&&◌, not}
+use mathlib.Core.Bool.{true, false, ◌||◌, not}
 use mathlib.Core.List.{List, [], ◌∷◌}
 use native.Mathlib.Omega.{arith}
 use native.Mathlib.Numerals.{one-add}
@@ -10,7 +10,7 @@ use lib.ListN.{length, drop}
 use borrow.Author.Tests.{leb-false, not-false}
 use Rattle.rules.specs.Basics.{bit, any_above}
 use Rattle.rules.specs.Sessions.{session_there, hours_in}
-use Rattle.rules.specs.Book.{Book, model_of, party, direction, direction_limit, party_limit}
+use Rattle.rules.specs.Book.{Book, model_of, direction_limit, party_limit}
 use Rattle.rules.specs.Calls.{Bid}
 use Rattle.rules.specs.Said.{said}
 use Rattle.rules.specs.Bids.{Shortage, is_short}

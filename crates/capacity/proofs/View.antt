@@ -1,6 +1,6 @@
 -- What the search finds is what the rules' search finds.
 -- Assumes nothing.
-use Rattle.std.proofs.Common.{◌≡◌, ℕ, zero, suc, ◌+◌, ◌-◌, ◌*◌, ◌<◌, ◌≤◌, Bool, true, false, cond, ◌&&◌, ltb, List, [], ◌∷◌, length, get_or, sym, refl, ap, ◌∙◌, zero-le, add-zero, zero-add, add-one, arith, le-ltb}
+use Rattle.std.proofs.Common.{◌≡◌, ℕ, zero, suc, ◌+◌, ◌≤◌, Bool, true, false, cond, ◌&&◌, ltb, List, [], ◌∷◌, length, get_or, sym, refl, ap, ◌∙◌, zero-le, add-zero, zero-add, add-one, arith, le-ltb}
 use Rattle.rules.specs.Basics.{bit}
 use Rattle.rules.specs.Book.{left_at, of_profile, profile_limit}
 use Rattle.rules.specs.Bids.{Shortage, nothing_short, short_at, or_else, profile_short, short_profile, short_hour, shortage}

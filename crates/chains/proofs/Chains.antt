@@ -1,6 +1,6 @@
 -- A chain of promises is the run of the rules, so demand 3 holds of it.
 -- Assumes nothing.
-use Prim.Native.Nat.{ℕ, ◌+◌}
+use Prim.Native.Nat.{ℕ}
 use mathlib.Core.Path.{◌≡◌, refl, sym, ap, ◌∙◌}
 use mathlib.Core.List.{List, [], ◌∷◌, map}
 use Rattle.rules.specs.Book.{Book}

@@ -2,15 +2,12 @@
 -- Assumes nothing.
 use Prim.Native.Nat.{ℕ, ◌+◌, ◌*◌, ◌≤◌, ◌<◌}
 use mathlib.Core.Path.{◌≡◌, refl, sym, ap, ◌∙◌}
-use mathlib.Core.Logic.{⊎_elim}
 use mathlib.Core.Bool.{Bool, true, false, cond, ◌||◌, ◌&&◌, not, true≢false}
 use mathlib.Core.List.{List, [], ◌∷◌, ◌++◌}
 use native.Mathlib.Omega.{arith}
 use lib.Dec.{leb, ltb, eqb}
 use lib.ListN.{length, set}
 use borrow.Author.Tests.{leb-false}
-use denote.Enum.Declared.{tag_of}
-use types.Run.{OneOf}
 use Rattle.rules.specs.Basics.{no_mw}
 use Rattle.rules.specs.Book.{Right, right_limit}
 use Rattle.rules.specs.Bids.{is_right_of, right_taken, added_right, with_right, right_from, right_number}
@@ -26,7 +23,6 @@ use Rattle.cells.specs.declared.Found.{Found}
 use Rattle.cells.specs.declared.Found.TheVariants.{At, Nothing}
 use Rattle.rights.specs.declared.Entry.{Entry}
 use Rattle.rights.specs.declared.Entry.TheVariants.{Full, Room, Standing}
-use Rattle.rights.specs.contracts.Entry.{the_type}
 use Rattle.rights.specs.Work.{standing_right, right_for, entry_of, entry_in, is_full, Enters, NewRight, Booked}
 
 -- ---- the search

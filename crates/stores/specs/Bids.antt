@@ -1,6 +1,6 @@
 -- Granted MW and a right's MW after a bid: over cells, as the workers leave them, and the granted MW over the list of the rules. Sums are those of 32 bits.
 -- Assumes nothing.
-use Rattle.std.specs.Prelude.{ℕ, suc, ◌+◌, ◌*◌, ◌-◌, ◌/◌, ◌%◌, ◌^◌, cond, List, [], ◌∷◌, get_or, set}
+use Rattle.std.specs.Prelude.{ℕ, suc, ◌+◌, ◌/◌, ◌%◌, ◌^◌, cond, List, [], ◌∷◌, get_or, set}
 use Rattle.rules.specs.Basics.{bit}
 use Rattle.rules.specs.Book.{place, of_profile}
 use Rattle.rules.specs.Bids.{share}

@@ -1,7 +1,6 @@
 -- `answers::before_clock` meets its contract.
 -- Assumes nothing.
 use Rattle.cells.specs.View.{book_of}
-use borrow.Author.Rules.{rules}
 use Rattle.answers.proofs.before_clock.Goals as goal
 
 pub returns : goal.returns

@@ -1,7 +1,6 @@
 -- `answers::direction_unknown` meets its contract.
 -- Assumes nothing.
 use Rattle.cells.proofs.Views.{direction_count}
-use borrow.Author.Rules.{rules}
 use Rattle.answers.proofs.direction_unknown.Goals as goal
 
 pub returns : goal.returns

@@ -8,7 +8,6 @@ use lib.Pow.{pow_mono}
 use native.Mathlib.Omega.{arith}
 use borrow.Author.Tests.{le-ltb}
 use Rattle.rules.specs.Basics.{bit}
-use borrow.Author.Rules.{rules}
 use Rattle.answers.proofs.has_access.Goals as goal
 
 -- a number of 32 bits has no bit past them

@@ -3,7 +3,6 @@
 use borrow.Author.Tests.{lt-ltb, le-ltb}
 use Rattle.cells.specs.View.{book_of}
 use Rattle.rules.specs.Refusals.{hour_unknown}
-use borrow.Author.Rules.{rules}
 use Rattle.answers.proofs.hour_unknown.Goals as goal
 
 pub returns-then-number-lt1 : goal.returns-then-number-lt1

@@ -1,7 +1,6 @@
 -- `answers::party_unknown` meets its contract.
 -- Assumes nothing.
 use Rattle.cells.proofs.Views.{party_count}
-use borrow.Author.Rules.{rules}
 use Rattle.answers.proofs.party_unknown.Goals as goal
 
 pub returns : goal.returns

@@ -2,7 +2,6 @@
 -- Assumes nothing.
 use borrow.Author.Tests.{le-leb, lt-leb}
 use Rattle.cells.proofs.Views.{profile_count}
-use borrow.Author.Rules.{rules}
 use Rattle.answers.proofs.profile_hour_unknown.Goals as goal
 
 pub returns-then-count_in-profile : goal.returns-then-count_in-profile

@@ -1,10 +1,9 @@
 -- `bids::bid` meets its contract.
 -- Assumes nothing.
-use mathlib.Core.Path.{◌≡◌, subst}
+use mathlib.Core.Path.{subst}
 use Rattle.answers.proofs.Laws.{refused}
 use Rattle.bids.specs.Work.{JudgedBid}
 use Rattle.bids.proofs.Placing.{bid_answers}
-use borrow.Author.Rules.{rules}
 use Rattle.bids.proofs.bid.Goals as goal
 
 pub place_bid-requires : goal.place_bid-requires

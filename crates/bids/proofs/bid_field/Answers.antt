@@ -1,7 +1,6 @@
 -- `bids::bid_field` meets its contract.
 -- Assumes nothing.
 use borrow.Author.Tests.{lt-ltb, le-ltb}
-use borrow.Author.Rules.{rules}
 use Rattle.bids.proofs.bid_field.Goals as goal
 
 pub returns-then-time-gt-LATEST : goal.returns-then-time-gt-LATEST

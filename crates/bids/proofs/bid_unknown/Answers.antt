@@ -3,7 +3,6 @@
 use native.Mathlib.Omega.{arith}
 use Rattle.cells.proofs.Views.{known_direction, session_unknown_lem}
 use Rattle.answers.proofs.Laws.{told}
-use borrow.Author.Rules.{rules}
 use Rattle.bids.proofs.bid_unknown.Goals as goal
 
 pub returns-then-party_unknown : goal.returns-then-party_unknown

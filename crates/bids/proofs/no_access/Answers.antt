@@ -1,6 +1,5 @@
 -- `bids::no_access` meets its contract.
 -- Assumes nothing.
-use borrow.Author.Rules.{rules}
 use Rattle.bids.proofs.no_access.Goals as goal
 
 pub returns-then-has_access : goal.returns-then-has_access

@@ -1,8 +1,6 @@
 -- `bids::place_bid` meets its contract.
 -- Assumes nothing.
-use mathlib.Core.Path.{◌∙◌}
 use Rattle.bids.proofs.Placing.{ready, hours, entry_same, placed}
-use borrow.Author.Rules.{rules}
 use Rattle.bids.proofs.place_bid.Goals as goal
 
 pub model_of-model-requires : goal.model_of-model-requires

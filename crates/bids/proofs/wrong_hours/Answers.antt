@@ -2,7 +2,6 @@
 -- Assumes nothing.
 use Rattle.cells.specs.View.{book_of}
 use Rattle.cells.proofs.Views.{hours_few, hours_within}
-use borrow.Author.Rules.{rules}
 use Rattle.bids.proofs.wrong_hours.Goals as goal
 
 pub any_above-requires : goal.any_above-requires

@@ -1,7 +1,6 @@
 -- `calendar::days_in` meets its contract: each branch by its tests.
 -- Assumes nothing.
 use mathlib.Core.Logic.{⊎_elim, inl, inr}
-use borrow.Author.Rules.{rules}
 use borrow.Author.Tests.{eq-eqb, ne_eqb}
 use Rattle.rules.specs.Calendar.{days_in}
 use Rattle.calendar.proofs.days_in.Goals as goal

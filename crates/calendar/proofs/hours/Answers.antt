@@ -1,9 +1,7 @@
 -- `calendar::hours` meets its contract: the date is there, or not.
 -- Assumes nothing.
 use mathlib.Core.Path.{sym, ◌∙◌}
-use borrow.Author.Rules.{rules}
-use borrow.Author.Tests.{not-true, not-false}
-use Rattle.calendar.proofs.Dates.{there, zero_is, hours_is}
+use Rattle.calendar.proofs.Dates.{there}
 use Rattle.calendar.proofs.hours.Goals as goal
 
 pub hours_on-requires : goal.hours_on-requires

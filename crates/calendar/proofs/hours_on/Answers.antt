@@ -1,7 +1,6 @@
 -- `calendar::hours_on` meets its contract: the table has both Sundays of the year.
 -- Assumes nothing.
 use native.Mathlib.Omega.{arith}
-use borrow.Author.Rules.{rules}
 use Rattle.calendar.proofs.Dates.{hours_are}
 use Rattle.calendar.proofs.Table.{each_year}
 use Rattle.calendar.proofs.hours_on.Goals as goal

@@ -1,8 +1,6 @@
 -- `calendar::is_date` meets its contract: each branch by its tests.
 -- Assumes nothing.
 use mathlib.Core.Path.{sym, ◌∙◌}
-use borrow.Author.Rules.{rules}
-use borrow.Author.Tests.{not-true, not-false}
 use Rattle.calendar.proofs.Dates.{no_year, no_month, by_day}
 use Rattle.calendar.proofs.is_date.Goals as goal
 

@@ -1,9 +1,7 @@
 -- `calendar::weekday` meets its contract: the days since 1 January 2000, years, months and days.
 -- Assumes nothing.
 use mathlib.Core.Path.{sym, ◌∙◌}
-use borrow.Author.Rules.{rules}
-use borrow.Author.Tests.{not-true, not-false}
-use Rattle.calendar.proofs.Dates.{there, zero_is, weekday_is}
+use Rattle.calendar.proofs.Dates.{there, weekday_is}
 use Rattle.calendar.proofs.weekday.Goals as goal
 
 pub days_of_years-requires : goal.days_of_years-requires

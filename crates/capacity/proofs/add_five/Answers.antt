@@ -1,7 +1,6 @@
 -- `capacity::add_five` meets its contract.
 -- Assumes nothing.
-use Rattle.std.proofs.Common.{◌≡◌, ◌+◌, ◌-◌, ◌≤◌, sym, refl, ◌∙◌, rules}
-use Rattle.cells.specs.Loops.{repeated}
+use Rattle.std.proofs.Common.{sym, refl, ◌∙◌, rules}
 use Rattle.stores.specs.Bids.{added_five, added_next}
 use Rattle.cells.proofs.Turns.{repeated_next, repeated_done}
 use Rattle.capacity.proofs.add_five.Goals as goal

@@ -1,9 +1,8 @@
 -- `capacity::add_five` meets its contract.
 -- Assumes nothing.
-use Rattle.std.proofs.Common.{◌≡◌, ◌+◌, ◌-◌, ◌≤◌, sym, refl, ◌∙◌, rules}
+use Rattle.std.proofs.Common.{◌≡◌, ◌-◌, ◌≤◌}
 use Rattle.cells.specs.Loops.{repeated}
 use Rattle.stores.specs.Bids.{added_five, added_next}
-use Rattle.cells.proofs.Turns.{repeated_next, repeated_done}
 use Rattle.capacity.proofs.add_five.Given as goal
 
 abbrev pub invariant-loop-k : goal.invariant-loop-k

@@ -1,7 +1,6 @@
 -- `capacity::any_above` meets its contract.
 -- Assumes nothing.
-use Rattle.std.proofs.Common.{◌≡◌, ◌+◌, ◌-◌, ◌<◌, ◌≤◌, length, drop, sym, refl, ◌∙◌, arith, rules}
-use Rattle.rules.specs.Basics.{any_above}
+use Rattle.std.proofs.Common.{◌<◌, ◌≤◌, length, sym, ◌∙◌, arith, rules}
 use Rattle.capacity.proofs.Above.{above_here, above_next, above_none}
 use Rattle.capacity.proofs.any_above.Goals as goal
 

@@ -1,8 +1,7 @@
 -- `capacity::any_above` meets its contract.
 -- Assumes nothing.
-use Rattle.std.proofs.Common.{◌≡◌, ◌+◌, ◌-◌, ◌<◌, ◌≤◌, length, drop, sym, refl, ◌∙◌, arith, rules}
+use Rattle.std.proofs.Common.{◌≡◌, ◌-◌, ◌≤◌, length, drop}
 use Rattle.rules.specs.Basics.{any_above}
-use Rattle.capacity.proofs.Above.{above_here, above_next, above_none}
 use Rattle.capacity.proofs.any_above.Given as goal
 
 abbrev pub invariant-loop-k : goal.invariant-loop-k

@@ -1,9 +1,8 @@
 -- `capacity::grant_hour` meets its contract.
 -- Assumes nothing.
-use Rattle.std.proofs.Common.{◌≡◌, ◌+◌, ◌-◌, ◌≤◌, sym, ◌∙◌, rules}
-use Rattle.cells.specs.Loops.{repeated}
-use Rattle.stores.specs.Bids.{granted_hour, granted_profile}
-use Rattle.cells.proofs.Turns.{repeated_start, repeated_next, repeated_done}
+use Rattle.std.proofs.Common.{sym, ◌∙◌, rules}
+use Rattle.stores.specs.Bids.{granted_hour}
+use Rattle.cells.proofs.Turns.{repeated_next, repeated_done}
 use Rattle.capacity.proofs.grant_hour.Goals as goal
 
 pub loop-p-preserved : goal.loop-p-preserved

@@ -1,8 +1,6 @@
 -- `capacity::grant_hours` meets its contract.
 -- Assumes nothing.
-use Rattle.std.proofs.Common.{◌≡◌, ◌+◌, ◌-◌, ◌≤◌, sym, ◌∙◌, rules}
-use Rattle.rules.specs.Book.{profile_limit}
-use Rattle.cells.specs.Loops.{repeated}
+use Rattle.std.proofs.Common.{sym, ◌∙◌, rules}
 use Rattle.stores.specs.Bids.{granted_hours, granted_next}
 use Rattle.cells.proofs.Turns.{repeated_start, repeated_next, repeated_done}
 use Rattle.capacity.proofs.grant_hours.Goals as goal

@@ -1,7 +1,7 @@
 -- `capacity::grant_profile` meets its contract.
 -- Assumes nothing.
 use Rattle.cells.proofs.Turns.{told_true, told_false}
-use Rattle.std.proofs.Common.{◌≡◌, sym, ◌∙◌, rules}
+use Rattle.std.proofs.Common.{sym, ◌∙◌}
 use Rattle.stores.specs.Bids.{granted_profile}
 use Rattle.capacity.proofs.grant_profile.Goals as goal
 

@@ -1,6 +1,6 @@
 -- `capacity::holds` meets its contract.
 -- Assumes nothing.
-use Rattle.std.proofs.Common.{refl, rules}
+use Rattle.std.proofs.Common.{refl}
 use Rattle.rules.specs.Basics.{bit}
 use Rattle.capacity.proofs.holds.Goals as goal
 

@@ -1,6 +1,5 @@
 -- `capacity::profile_short` meets its contract.
 -- Assumes nothing.
-use Rattle.std.proofs.Common.{◌∙◌, rules}
 use Rattle.capacity.specs.Search.{profile_short_in}
 use Rattle.capacity.proofs.profile_short.Goals as goal
 

@@ -1,8 +1,6 @@
 -- `capacity::shortage` meets its contract.
 -- Assumes nothing.
-use Rattle.std.proofs.Common.{◌≡◌, ◌+◌, ◌-◌, ◌<◌, ◌≤◌, sym, refl, ◌∙◌, rules}
-use Rattle.capacity.specs.declared.Search.TheVariants.{Enough}
-use Rattle.cells.specs.Loops.{each}
+use Rattle.std.proofs.Common.{sym, refl, ◌∙◌, rules}
 use Rattle.capacity.specs.Search.{shortage_in, try_hour, try_profile}
 use Rattle.cells.proofs.Turns.{each_start, each_next, each_done, told_true, told_false}
 use Rattle.capacity.proofs.shortage.Goals as goal

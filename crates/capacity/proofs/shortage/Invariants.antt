@@ -1,10 +1,9 @@
 -- `capacity::shortage` meets its contract.
 -- Assumes nothing.
-use Rattle.std.proofs.Common.{◌≡◌, ◌+◌, ◌-◌, ◌<◌, ◌≤◌, sym, refl, ◌∙◌, rules}
+use Rattle.std.proofs.Common.{◌≡◌, ◌+◌, ◌-◌, ◌≤◌}
 use Rattle.capacity.specs.declared.Search.TheVariants.{Enough}
 use Rattle.cells.specs.Loops.{each}
 use Rattle.capacity.specs.Search.{shortage_in, try_hour, try_profile}
-use Rattle.cells.proofs.Turns.{each_start, each_next, each_done, told_true, told_false}
 use Rattle.capacity.proofs.shortage.Given as goal
 
 abbrev pub invariant-profiles : goal.invariant-profiles

@@ -1,6 +1,5 @@
 -- `cells::hours` meets its contract.
 -- Assumes nothing.
-use borrow.Author.Rules.{rules}
 use borrow.Author.Tests.{eq-eqb, ne_eqb}
 use Rattle.cells.specs.View.{day_hours_in}
 use Rattle.cells.proofs.hours.Goals as goal

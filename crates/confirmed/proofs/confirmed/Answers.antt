@@ -1,7 +1,6 @@
 -- `confirmed::confirmed` meets its contract.
 -- Assumes nothing.
 use native.Mathlib.Omega.{arith}
-use borrow.Author.Rules.{rules}
 use Rattle.confirmed.proofs.Hours.{product_fits, cut_fits, cut, uncut}
 use Rattle.confirmed.proofs.confirmed.Goals as goal
 

@@ -1,6 +1,5 @@
 -- `confirmed::confirmed_five` meets its contract.
 -- Assumes nothing.
-use borrow.Author.Rules.{rules}
 use Rattle.confirmed.proofs.confirmed_five.Goals as goal
 
 pub returns : goal.returns

@@ -1,7 +1,6 @@
 -- `confirmed::confirmed_hour` meets its contract.
 -- Assumes nothing.
 use Rattle.confirmed.proofs.Hours.{hour_is}
-use borrow.Author.Rules.{rules}
 use Rattle.confirmed.proofs.confirmed_hour.Goals as goal
 
 pub returns : goal.returns

@@ -5,7 +5,6 @@ use mathlib.Core.Path.{ap}
 use Prim.Native.Nat.{◌<◌}
 use mathlib.Core.Path.{◌≡◌, sym, ◌∙◌}
 use native.Mathlib.Omega.{arith}
-use borrow.Author.Rules.{rules}
 use Rattle.rules.specs.Book.{right_limit}
 use Rattle.rules.specs.Refusals.{is_matched}
 use Rattle.cells.specs.Layout.{RIGHTS}
@@ -18,12 +17,12 @@ pub returns-then-count_in-right : goal.returns-then-count_in-right
 returns-then-count_in-right c = record { reply = rw c.refused.ensures (no_right _ _ _ _ (rw c.count_in.ensures at c.if-count_in-right.true)) }
 
 pub returns-in_default : goal.returns-in_default
-returns-in_default c = 
+returns-in_default c =
     let known : let a = c.args in a.right < counted a.book.now RIGHTS right_limit = (rw c.count_in.ensures at c.if-count_in-right.false) in
     record { reply = rw c.refused-in_default.ensures (no_pair _ _ _ _ known (standing_none _ _ _ _ (sym c.standing_pair.ensures ∙ c.in_default.is)).none) }
 
 pub returns-then-not-is_matched : goal.returns-then-not-is_matched
-returns-then-not-is_matched c = 
+returns-then-not-is_matched c =
     let known : let a = c.args in a.right < counted a.book.now RIGHTS right_limit = (rw c.count_in.ensures at c.if-count_in-right.false) in
     let found : let a = c.args in Standing a.book.now a.right a.out a.into c.in-At.i = (standing_at _ _ _ _ _ (sym c.standing_pair.ensures ∙ c.in-At.is)) in
     let matched : let a = c.args in
@@ -31,14 +30,14 @@ returns-then-not-is_matched c =
     record { reply = rw c.refused-then-not-is_matched.ensures (not_matched _ _ _ _ known found.there matched (ap not c.if-not-is_matched.true)) }
 
 pub confirmed_five-mw-requires : goal.confirmed_five-mw-requires
-confirmed_five-mw-requires c = 
+confirmed_five-mw-requires c =
     let known : let a = c.args in a.right < counted a.book.now RIGHTS right_limit = (rw c.count_in.ensures at c.if-count_in-right.false) in
     let found : let a = c.args in Standing a.book.now a.right a.out a.into c.in-At.i = (standing_at _ _ _ _ _ (sym c.standing_pair.ensures ∙ c.in-At.is)) in
     let l = known in
     (omega arith, found.most)
 
 pub returns : goal.returns
-returns c = 
+returns c =
     let known : let a = c.args in a.right < counted a.book.now RIGHTS right_limit = (rw c.count_in.ensures at c.if-count_in-right.false) in
     let found : let a = c.args in Standing a.book.now a.right a.out a.into c.in-At.i = (standing_at _ _ _ _ _ (sym c.standing_pair.ensures ∙ c.in-At.is)) in
     let matched : let a = c.args in

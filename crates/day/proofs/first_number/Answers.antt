@@ -3,7 +3,6 @@
 use borrow.Author.Tests.{le-leb, lt-leb, eq-eqb, ne_eqb}
 use native.Mathlib.Omega.{arith}
 use Rattle.rules.specs.Sessions.{first_hour}
-use borrow.Author.Rules.{rules}
 use Rattle.day.proofs.first_number.Goals as goal
 
 pub returns-then-model-eq1 : goal.returns-then-model-eq1

@@ -2,7 +2,6 @@
 -- Assumes nothing.
 use borrow.Author.Tests.{le-leb, lt-leb, eq-eqb, ne_eqb}
 use Rattle.rules.specs.Sessions.{hours_in}
-use borrow.Author.Rules.{rules}
 use Rattle.day.proofs.hours_in.Goals as goal
 
 pub returns-then-model-eq1 : goal.returns-then-model-eq1

@@ -4,7 +4,6 @@ use Prim.Native.Nat.{◌+◌, ◌-◌}
 use native.Mathlib.Omega.{arith}
 use borrow.Author.Tests.{le-leb, lt-leb, eq-eqb, ne_eqb}
 use Rattle.rules.specs.Sessions.{session_of}
-use borrow.Author.Rules.{rules}
 use Rattle.day.proofs.session_of.Goals as goal
 
 pub returns-then-model-eq1 : goal.returns-then-model-eq1

@@ -2,7 +2,6 @@
 -- Assumes nothing.
 use borrow.Author.Tests.{lt-ltb, le-ltb}
 use Rattle.rules.specs.Sessions.{session_there}
-use borrow.Author.Rules.{rules}
 use Rattle.day.proofs.session_there.Goals as goal
 
 pub returns-then-number-gt0 : goal.returns-then-number-gt0

@@ -1,14 +1,13 @@
 -- `eic::is_party_code` meets its contract. The loop's invariant: the weighted sum is what is summed and what is left, and the characters
 -- seen so far are characters.
 -- Assumes nothing.
-use Prim.Native.Nat.{◌+◌, ◌-◌, ◌*◌, ◌≤◌, ◌<◌}
-use mathlib.Core.Path.{◌≡◌, refl, sym, ◌∙◌}
+use Prim.Native.Nat.{◌<◌}
+use mathlib.Core.Path.{◌≡◌, sym, ◌∙◌}
 use mathlib.Core.Bool.{true}
-use borrow.Author.Rules.{rules}
 use borrow.Author.Tests.{eq-eqb, ne_eqb}
 use native.Mathlib.Omega.{arith}
-use lib.ListN.{length, take, drop, get_or}
-use Rattle.rules.specs.Codes.{char_value, all_chars, weighted, weighted_sum}
+use lib.ListN.{length, drop, get_or}
+use Rattle.rules.specs.Codes.{char_value, all_chars, weighted_sum}
 use Rattle.eic.proofs.Codes.{char_there, no_char, all_done, fifteen_next, fifteen_done, no_code, IsCode-left, code_left}
 use Rattle.eic.proofs.is_party_code.Goals as goal
 
@@ -35,7 +34,7 @@ loop-k-preserved c = let code = c.args.code in
     )
 
 pub returns-in_default-char_value : goal.returns-in_default-char_value
-returns-in_default-char_value c = 
+returns-in_default-char_value c =
     let seen : (weighted_sum c.args.code ≡ c.loop-k.sum) × (all_chars c.args.code ≡ all_chars (drop 15 c.args.code)) = (let code = c.args.code in
     let inv = c.loop-k.invariant in
     let all : c.loop-k.k ≡ 15 = omega arith in
@@ -48,7 +47,7 @@ returns-in_default-char_value c =
     sym (no_code code inv.0.1 (seen.1 ∙ no_char code 15 inside e))
 
 pub returns-then-code-ne88 : goal.returns-then-code-ne88
-returns-then-code-ne88 c = 
+returns-then-code-ne88 c =
     let seen : (weighted_sum c.args.code ≡ c.loop-k.sum) × (all_chars c.args.code ≡ all_chars (drop 15 c.args.code)) = (let code = c.args.code in
     let inv = c.loop-k.invariant in
     let all : c.loop-k.k ≡ 15 = omega arith in
@@ -66,7 +65,7 @@ returns-then-code-ne88 c =
     rw (left-to-test, ne_eqb (get_or c.args.code 2 0) 88 c.if-code-ne88.true)
 
 pub returns-then-last-check_value : goal.returns-then-last-check_value
-returns-then-last-check_value c = 
+returns-then-last-check_value c =
     let seen : (weighted_sum c.args.code ≡ c.loop-k.sum) × (all_chars c.args.code ≡ all_chars (drop 15 c.args.code)) = (let code = c.args.code in
     let inv = c.loop-k.invariant in
     let all : c.loop-k.k ≡ 15 = omega arith in
@@ -84,7 +83,7 @@ returns-then-last-check_value c =
     rw (left-to-test, eq-eqb _ _ c.if-code-ne88.false, ← c.check_value.ensures, eq-eqb _ _ c.if-last-check_value.true)
 
 pub returns-else-last-check_value : goal.returns-else-last-check_value
-returns-else-last-check_value c = 
+returns-else-last-check_value c =
     let seen : (weighted_sum c.args.code ≡ c.loop-k.sum) × (all_chars c.args.code ≡ all_chars (drop 15 c.args.code)) = (let code = c.args.code in
     let inv = c.loop-k.invariant in
     let all : c.loop-k.k ≡ 15 = omega arith in

@@ -1,15 +1,10 @@
 -- `eic::is_party_code` meets its contract. The loop's invariant: the weighted sum is what is summed and what is left, and the characters
 -- seen so far are characters.
 -- Assumes nothing.
-use Prim.Native.Nat.{◌+◌, ◌-◌, ◌*◌, ◌≤◌, ◌<◌}
-use mathlib.Core.Path.{◌≡◌, refl, sym, ◌∙◌}
-use mathlib.Core.Bool.{true}
-use borrow.Author.Rules.{rules}
-use borrow.Author.Tests.{eq-eqb, ne_eqb}
-use native.Mathlib.Omega.{arith}
-use lib.ListN.{length, take, drop, get_or}
-use Rattle.rules.specs.Codes.{char_value, all_chars, weighted, weighted_sum}
-use Rattle.eic.proofs.Codes.{char_there, no_char, all_done, fifteen_next, fifteen_done, no_code, IsCode-left, code_left}
+use Prim.Native.Nat.{◌+◌, ◌-◌, ◌*◌, ◌≤◌}
+use mathlib.Core.Path.{◌≡◌}
+use lib.ListN.{length, take, drop}
+use Rattle.rules.specs.Codes.{all_chars, weighted, weighted_sum}
 use Rattle.eic.proofs.is_party_code.Given as goal
 
 abbrev pub invariant-loop-k : goal.invariant-loop-k

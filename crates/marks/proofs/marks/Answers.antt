@@ -1,12 +1,7 @@
 -- `marks::marks` meets its contract.
 -- Assumes nothing.
-use Prim.Native.Nat.{◌-◌, ◌^◌, ◌≤◌, ◌<◌}
-use mathlib.Core.Path.{◌≡◌}
 use native.Mathlib.Omega.{arith}
-use borrow.Author.Rules.{rules}
-use Rattle.rules.specs.Nominations.{marks}
-use Rattle.cells.specs.View.{book_of}
-use Rattle.marks.proofs.Sums.{with_bits, bits_next, bits_done, bits_fit, bits_below, bit_at, marks_start, bit_is}
+use Rattle.marks.proofs.Sums.{bits_next, bits_done, bits_fit, bits_below, marks_start, bit_is}
 use Rattle.marks.proofs.marks.Goals as goal
 
 pub loop-k-init : goal.loop-k-init
@@ -20,8 +15,7 @@ overflow_add-bits c = omega (arith, bits_fit _ _ _ c.loop-k.invariant.1.0 c.mark
 
 pub loop-k-preserved : goal.loop-k-preserved
 loop-k-preserved c = let h = c.loop-k.invariant in
-    let l = c.loop-k-test.true in
-    (
+    let l = c.loop-k-test.true in (
       omega (arith, l),
       (
         bits_below _ _ _ h.1.0 c.mark.ensures.1,

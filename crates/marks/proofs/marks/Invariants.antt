@@ -2,11 +2,9 @@
 -- Assumes nothing.
 use Prim.Native.Nat.{◌-◌, ◌^◌, ◌≤◌, ◌<◌}
 use mathlib.Core.Path.{◌≡◌}
-use native.Mathlib.Omega.{arith}
-use borrow.Author.Rules.{rules}
 use Rattle.rules.specs.Nominations.{marks}
 use Rattle.cells.specs.View.{book_of}
-use Rattle.marks.proofs.Sums.{with_bits, bits_next, bits_done, bits_fit, bits_below, bit_at, marks_start, bit_is}
+use Rattle.marks.proofs.Sums.{with_bits, bit_at}
 use Rattle.marks.proofs.marks.Given as goal
 
 abbrev pub invariant-loop-k : goal.invariant-loop-k

@@ -2,7 +2,6 @@
 -- Assumes nothing.
 use mathlib.Core.Path.{sym}
 use Rattle.marks.proofs.Sums.{side_cell}
-use borrow.Author.Rules.{rules}
 use Rattle.marks.proofs.side_mw.Goals as goal
 
 pub returns : goal.returns

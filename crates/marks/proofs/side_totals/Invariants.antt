@@ -2,15 +2,12 @@
 -- Assumes nothing.
 use mathlib.Core.Path.{◌≡◌}
 use Prim.Native.Nat.{ℕ, ◌≤◌, ◌<◌, ◌+◌, ◌-◌}
-use native.Mathlib.Omega.{arith}
 use lib.ListN.{get_or}
-use borrow.Author.Rules.{rules}
 use Rattle.rules.specs.Book.{pair_limit}
 use Rattle.rules.specs.Nominations.{side_total}
 use Rattle.cells.specs.Loops.{each}
 use Rattle.cells.specs.View.{book_of}
 use Rattle.marks.specs.Totals.{add_pair, Bounded}
-use Rattle.marks.proofs.Sums.{zeros, sum_start, sum_next, sum_done}
 use Rattle.marks.proofs.side_totals.Given as goal
 
 abbrev pub invariant-loop-i : goal.invariant-loop-i

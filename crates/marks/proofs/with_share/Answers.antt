@@ -1,9 +1,8 @@
 -- `marks::with_share` meets its contract.
 -- Assumes nothing.
-use Prim.Native.Nat.{◌-◌, ◌≤◌}
 use native.Mathlib.Omega.{arith}
 use borrow.Author.Rules.{rules}
-use Rattle.marks.proofs.Sums.{AddedTo, none_added, no_hour_added, hour_added, all_added}
+use Rattle.marks.proofs.Sums.{none_added, no_hour_added, hour_added, all_added}
 use Rattle.marks.proofs.with_share.Goals as goal
 
 pub returns-then-book-i : goal.returns-then-book-i

@@ -1,9 +1,7 @@
 -- `marks::with_share` meets its contract.
 -- Assumes nothing.
 use Prim.Native.Nat.{◌-◌, ◌≤◌}
-use native.Mathlib.Omega.{arith}
-use borrow.Author.Rules.{rules}
-use Rattle.marks.proofs.Sums.{AddedTo, none_added, no_hour_added, hour_added, all_added}
+use Rattle.marks.proofs.Sums.{AddedTo}
 use Rattle.marks.proofs.with_share.Given as goal
 
 abbrev pub invariant-loop-position : goal.invariant-loop-position

@@ -1,7 +1,6 @@
 -- `matching::count_right` meets its contract.
 -- Assumes nothing.
 use mathlib.Core.Path.{refl}
-use borrow.Author.Rules.{rules}
 use Rattle.matching.specs.Work.{one_of}
 use Rattle.matching.proofs.count_right.Goals as goal
 

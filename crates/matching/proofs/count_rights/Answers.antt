@@ -1,14 +1,9 @@
 -- `matching::count_rights` meets its contract: the whole count is that of the rows passed and that of the rows left.
 -- Assumes nothing.
-use mathlib.Core.Path.{◌≡◌, refl, sym, ◌∙◌}
-use Prim.Native.Nat.{◌≤◌, ◌+◌, ◌-◌}
+use mathlib.Core.Path.{refl, sym, ◌∙◌}
+use Prim.Native.Nat.{◌≤◌}
 use native.Mathlib.Nat.{zero-add, add-zero, add_assoc}
 use native.Mathlib.Omega.{arith}
-use borrow.Author.Rules.{rules}
-use Rattle.rules.specs.Book.{right_limit}
-use Rattle.rules.specs.Nominations.{count_rights}
-use Rattle.cells.specs.Loops.{each}
-use Rattle.cells.specs.View.{book_of}
 use Rattle.cells.proofs.Turns.{each_start, each_next, each_done}
 use Rattle.matching.specs.Work.{tally}
 use Rattle.matching.proofs.Counts.{one_at_most, count_is}
@@ -19,7 +14,7 @@ loop-i-init c = (omega (arith, c.count_in-rights.ensures), rw (c.count_in-rights
 
 pub loop-i-preserved : goal.loop-i-preserved
 unfolding tally
-loop-i-preserved c = 
+loop-i-preserved c =
     let few-more : c.count_right-count.result ≤ 1 = (rw c.count_right-count.ensures (one_at_most _ _ _)) in
     let few = few-more in
     (omega arith, c.loop-i.invariant.1 ∙ rw (each_next _ _ _ _ c.loop-i-test.true, c.count_right-count.ensures, add_assoc) refl)
@@ -28,6 +23,6 @@ pub returns : goal.returns
 returns c = sym (c.loop-i.invariant.1 ∙ rw (each_done _ _ _ _ c.loop-i-test.false, add-zero _))
 
 pub overflow_add-count : goal.overflow_add-count
-overflow_add-count c = 
+overflow_add-count c =
     let few-more : c.count_right-count.result ≤ 1 = (rw c.count_right-count.ensures (one_at_most _ _ _)) in
     let few = few-more in omega arith

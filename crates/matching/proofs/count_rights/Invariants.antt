@@ -1,17 +1,12 @@
 -- `matching::count_rights` meets its contract: the whole count is that of the rows passed and that of the rows left.
 -- Assumes nothing.
-use mathlib.Core.Path.{◌≡◌, refl, sym, ◌∙◌}
+use mathlib.Core.Path.{◌≡◌}
 use Prim.Native.Nat.{◌≤◌, ◌+◌, ◌-◌}
-use native.Mathlib.Nat.{zero-add, add-zero, add_assoc}
-use native.Mathlib.Omega.{arith}
-use borrow.Author.Rules.{rules}
 use Rattle.rules.specs.Book.{right_limit}
 use Rattle.rules.specs.Nominations.{count_rights}
 use Rattle.cells.specs.Loops.{each}
 use Rattle.cells.specs.View.{book_of}
-use Rattle.cells.proofs.Turns.{each_start, each_next, each_done}
 use Rattle.matching.specs.Work.{tally}
-use Rattle.matching.proofs.Counts.{one_at_most, count_is}
 use Rattle.matching.proofs.count_rights.Given as goal
 
 abbrev pub invariant-loop-i : goal.invariant-loop-i

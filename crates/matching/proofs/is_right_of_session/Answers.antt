@@ -1,7 +1,6 @@
 -- `matching::is_right_of_session` meets its contract.
 -- Assumes nothing.
 use borrow.Author.Tests.{eq-eqb, ne_eqb}
-use borrow.Author.Rules.{rules}
 use Rattle.matching.specs.Work.{is_of}
 use Rattle.matching.proofs.is_right_of_session.Goals as goal
 

@@ -3,7 +3,6 @@
 use native.Mathlib.Omega.{arith}
 use Rattle.answers.proofs.Laws.{told}
 use Rattle.cells.proofs.Views.{known_direction, session_unknown_lem}
-use borrow.Author.Rules.{rules}
 use Rattle.matching.proofs.match_unknown.Goals as goal
 
 pub returns-then-direction_unknown : goal.returns-then-direction_unknown

@@ -3,7 +3,6 @@
 use mathlib.Core.Path.{refl, ◌∙◌}
 use native.Mathlib.Omega.{arith}
 use Rattle.matching.proofs.Placing.{match_there}
-use borrow.Author.Rules.{rules}
 use Rattle.matching.proofs.place_match.Goals as goal
 
 pub set_matched-requires : goal.set_matched-requires
@@ -11,7 +10,7 @@ set_matched-requires c = let k = match_there _ _ _ _ c.requires in omega arith
 
 pub returns : goal.returns
 returns c = record {
-      cells = c.cells_in.ensures;
-      count_is = c.count_rights-count.ensures;
-      cells_are = c.set_clock.ensures ∙ rw c.set_matched.ensures refl;
-    }
+  cells = c.cells_in.ensures;
+  count_is = c.count_rights-count.ensures;
+  cells_are = c.set_clock.ensures ∙ rw c.set_matched.ensures refl;
+}

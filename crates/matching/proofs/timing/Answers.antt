@@ -2,7 +2,6 @@
 -- Assumes nothing.
 use mathlib.Core.Path.{◌∙◌}
 use Rattle.cells.specs.View.{book_of}
-use borrow.Author.Rules.{rules}
 use Rattle.matching.proofs.timing.Goals as goal
 
 pub returns : goal.returns

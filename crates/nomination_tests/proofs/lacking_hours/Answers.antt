@@ -1,6 +1,5 @@
 -- `nomination_tests::lacking_hours` meets its contract.
 -- Assumes nothing.
-use borrow.Author.Rules.{rules}
 use Rattle.cells.proofs.Views.{hours_few, hours_within}
 use Rattle.nomination_tests.proofs.Tests.{lacking_is}
 use Rattle.nomination_tests.proofs.lacking_hours.Goals as goal

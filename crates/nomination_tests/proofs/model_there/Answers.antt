@@ -1,6 +1,5 @@
 -- `nomination_tests::model_there` meets its contract.
 -- Assumes nothing.
-use borrow.Author.Rules.{rules}
 use mathlib.Core.Path.{sym, ◌∙◌}
 use native.Mathlib.Omega.{arith}
 use Rattle.cells.proofs.Views.{known_direction, model_at}

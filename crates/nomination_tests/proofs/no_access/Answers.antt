@@ -1,6 +1,5 @@
 -- `nomination_tests::no_access` meets its contract.
 -- Assumes nothing.
-use borrow.Author.Rules.{rules}
 use Rattle.nomination_tests.proofs.Tests.{access_is}
 use Rattle.nomination_tests.proofs.no_access.Goals as goal
 

@@ -1,6 +1,5 @@
 -- `nomination_tests::nomination_field` meets its contract.
 -- Assumes nothing.
-use borrow.Author.Rules.{rules}
 use borrow.Author.Tests.{lt-ltb, le-ltb}
 use Rattle.nomination_tests.proofs.nomination_field.Goals as goal
 

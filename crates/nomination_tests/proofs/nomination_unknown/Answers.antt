@@ -1,6 +1,5 @@
 -- `nomination_tests::nomination_unknown` meets its contract.
 -- Assumes nothing.
-use borrow.Author.Rules.{rules}
 use Rattle.nomination_tests.proofs.Tests.{right_unknown_lem}
 use Rattle.nomination_tests.proofs.nomination_unknown.Goals as goal
 

@@ -1,6 +1,5 @@
 -- `nomination_tests::not_owner` meets its contract.
 -- Assumes nothing.
-use borrow.Author.Rules.{rules}
 use Rattle.nomination_tests.proofs.Tests.{sender_holds, other_holds}
 use Rattle.nomination_tests.proofs.not_owner.Goals as goal
 

@@ -1,6 +1,5 @@
 -- `nomination_tests::right_model` meets its contract.
 -- Assumes nothing.
-use borrow.Author.Rules.{rules}
 use Prim.Native.Nat.{ℕ}
 use mathlib.Core.Path.{ap, ◌∙◌}
 use Rattle.rules.specs.Book.{model_of}

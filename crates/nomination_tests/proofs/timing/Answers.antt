@@ -1,6 +1,5 @@
 -- `nomination_tests::timing` meets its contract.
 -- Assumes nothing.
-use borrow.Author.Rules.{rules}
 use Rattle.nomination_tests.proofs.Tests.{timing_is}
 use Rattle.nomination_tests.proofs.timing.Goals as goal
 

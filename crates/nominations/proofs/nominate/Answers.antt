@@ -4,7 +4,6 @@ use mathlib.Core.Path.{subst}
 use Rattle.answers.proofs.Laws.{refused}
 use Rattle.nominations.specs.Work.{JudgedNomination}
 use Rattle.nominations.proofs.Placing.{nomination_answers}
-use borrow.Author.Rules.{rules}
 use Rattle.nominations.proofs.nominate.Goals as goal
 
 pub place_nomination-requires : goal.place_nomination-requires

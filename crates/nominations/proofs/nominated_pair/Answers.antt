@@ -1,6 +1,5 @@
 -- `nominations::nominated_pair` meets its contract.
 -- Assumes nothing.
-use borrow.Author.Rules.{rules}
 use Rattle.nominations.proofs.nominated_pair.Goals as goal
 
 pub returns : goal.returns

@@ -1,8 +1,7 @@
 -- `nominations::nomination_verdict` meets its contract: each test passed leaves fewer numbers, and one that holds is the first.
 -- Assumes nothing.
-use Prim.Native.Nat.{ℕ}
 use mathlib.Core.Path.{◌≡◌, refl, subst}
-use mathlib.Core.List.{List, [], ◌∷◌}
+use mathlib.Core.List.{[], ◌∷◌}
 use Rattle.rules.specs.Calls.{Nominate}
 use Rattle.rules.specs.Refusals.{refuses, field, clock, unknown, timing_of, wrong_hours, no_access, not_owner, full}
 use Rattle.rules.specs.Details.{refusal}
@@ -11,38 +10,37 @@ use Rattle.cells.specs.View.{book_of}
 use Rattle.answers.proofs.Laws.{Left, pass, refuse, ByWindow, by_window, none_left, told}
 use Rattle.pairs.proofs.Pairs.{full_is}
 use Rattle.nominations.proofs.Verdicts.{nomination_left, KnownNomination, known_nomination}
-use borrow.Author.Rules.{rules}
 use Rattle.nominations.proofs.nomination_verdict.Goals as goal
 
 pub returns-then-nomination_field : goal.returns-then-nomination_field
 unfolding refuses field refusal
-returns-then-nomination_field c = 
+returns-then-nomination_field c =
     let start : (Left (book_of c.args.book.now) (Nominate c.args.time c.args.sender c.args.other c.args.right c.args.side c.args.mw) (3 ∷ 5 ∷ 6 ∷ 16 ∷ 8 ∷ 9 ∷ 10 ∷ 11 ∷ 13 ∷ [])) = (nomination_left _ _ _ _ _ _ _) in
     refuse Field start (told c.nomination_field.ensures c.if-nomination_field.true) refl refl
 
 pub returns-then-before_clock : goal.returns-then-before_clock
 unfolding refuses clock refusal field
-returns-then-before_clock c = 
+returns-then-before_clock c =
     let start : (Left (book_of c.args.book.now) (Nominate c.args.time c.args.sender c.args.other c.args.right c.args.side c.args.mw) (3 ∷ 5 ∷ 6 ∷ 16 ∷ 8 ∷ 9 ∷ 10 ∷ 11 ∷ 13 ∷ [])) = (nomination_left _ _ _ _ _ _ _) in
     let after1 : (Left (book_of c.args.book.now) (Nominate c.args.time c.args.sender c.args.other c.args.right c.args.side c.args.mw) (5 ∷ 6 ∷ 16 ∷ 8 ∷ 9 ∷ 10 ∷ 11 ∷ 13 ∷ [])) = (pass start (told c.nomination_field.ensures c.if-nomination_field.false)) in
     refuse Clock after1 (told c.before_clock.ensures c.if-before_clock.true) refl refl
 
 pub returns-then-nomination_unknown : goal.returns-then-nomination_unknown
 unfolding refuses unknown refusal field clock
-returns-then-nomination_unknown c = 
+returns-then-nomination_unknown c =
     let start : (Left (book_of c.args.book.now) (Nominate c.args.time c.args.sender c.args.other c.args.right c.args.side c.args.mw) (3 ∷ 5 ∷ 6 ∷ 16 ∷ 8 ∷ 9 ∷ 10 ∷ 11 ∷ 13 ∷ [])) = (nomination_left _ _ _ _ _ _ _) in
     let after1 : (Left (book_of c.args.book.now) (Nominate c.args.time c.args.sender c.args.other c.args.right c.args.side c.args.mw) (5 ∷ 6 ∷ 16 ∷ 8 ∷ 9 ∷ 10 ∷ 11 ∷ 13 ∷ [])) = (pass start (told c.nomination_field.ensures c.if-nomination_field.false)) in
     let after2 : (Left (book_of c.args.book.now) (Nominate c.args.time c.args.sender c.args.other c.args.right c.args.side c.args.mw) (6 ∷ 16 ∷ 8 ∷ 9 ∷ 10 ∷ 11 ∷ 13 ∷ [])) = (pass after1 (told c.before_clock.ensures c.if-before_clock.false)) in
     refuse Unknown after2 (told c.nomination_unknown.ensures c.if-nomination_unknown.true) refl refl
 
 pub timing-timing-requires : goal.timing-timing-requires
-timing-timing-requires c = 
+timing-timing-requires c =
     let knows : let a = c.args in KnownNomination a.book.now a.sender a.right = (known_nomination _ _ _ _ (told c.nomination_unknown.ensures c.if-nomination_unknown.false)) in
     knows.right
 
 pub returns-in-No : goal.returns-in-No
 unfolding refuses field clock unknown timing_of
-returns-in-No c = 
+returns-in-No c =
     let start : (Left (book_of c.args.book.now) (Nominate c.args.time c.args.sender c.args.other c.args.right c.args.side c.args.mw) (3 ∷ 5 ∷ 6 ∷ 16 ∷ 8 ∷ 9 ∷ 10 ∷ 11 ∷ 13 ∷ [])) = (nomination_left _ _ _ _ _ _ _) in
     let after1 : (Left (book_of c.args.book.now) (Nominate c.args.time c.args.sender c.args.other c.args.right c.args.side c.args.mw) (5 ∷ 6 ∷ 16 ∷ 8 ∷ 9 ∷ 10 ∷ 11 ∷ 13 ∷ [])) = (pass start (told c.nomination_field.ensures c.if-nomination_field.false)) in
     let after2 : (Left (book_of c.args.book.now) (Nominate c.args.time c.args.sender c.args.other c.args.right c.args.side c.args.mw) (6 ∷ 16 ∷ 8 ∷ 9 ∷ 10 ∷ 11 ∷ 13 ∷ [])) = (pass after1 (told c.before_clock.ensures c.if-before_clock.false)) in
@@ -52,13 +50,13 @@ returns-in-No c =
     subst (ByWindow _ _ _) c.in-No.is found
 
 pub lacking_hours-requires : goal.lacking_hours-requires
-lacking_hours-requires c = 
+lacking_hours-requires c =
     let knows : let a = c.args in KnownNomination a.book.now a.sender a.right = (known_nomination _ _ _ _ (told c.nomination_unknown.ensures c.if-nomination_unknown.false)) in
     knows.right
 
 pub returns-then-lacking_hours : goal.returns-then-lacking_hours
 unfolding refuses wrong_hours refusal field clock unknown timing_of
-returns-then-lacking_hours c = 
+returns-then-lacking_hours c =
     let start : (Left (book_of c.args.book.now) (Nominate c.args.time c.args.sender c.args.other c.args.right c.args.side c.args.mw) (3 ∷ 5 ∷ 6 ∷ 16 ∷ 8 ∷ 9 ∷ 10 ∷ 11 ∷ 13 ∷ [])) = (nomination_left _ _ _ _ _ _ _) in
     let after1 : (Left (book_of c.args.book.now) (Nominate c.args.time c.args.sender c.args.other c.args.right c.args.side c.args.mw) (5 ∷ 6 ∷ 16 ∷ 8 ∷ 9 ∷ 10 ∷ 11 ∷ 13 ∷ [])) = (pass start (told c.nomination_field.ensures c.if-nomination_field.false)) in
     let after2 : (Left (book_of c.args.book.now) (Nominate c.args.time c.args.sender c.args.other c.args.right c.args.side c.args.mw) (6 ∷ 16 ∷ 8 ∷ 9 ∷ 10 ∷ 11 ∷ 13 ∷ [])) = (pass after1 (told c.before_clock.ensures c.if-before_clock.false)) in
@@ -69,13 +67,13 @@ returns-then-lacking_hours c =
     refuse Hours after4 (told c.lacking_hours.ensures c.if-lacking_hours.true) refl refl
 
 pub no_access-requires : goal.no_access-requires
-no_access-requires c = 
+no_access-requires c =
     let knows : let a = c.args in KnownNomination a.book.now a.sender a.right = (known_nomination _ _ _ _ (told c.nomination_unknown.ensures c.if-nomination_unknown.false)) in
     (knows.sender, knows.right)
 
 pub returns-then-no_access : goal.returns-then-no_access
 unfolding refuses no_access refusal field clock unknown timing_of wrong_hours
-returns-then-no_access c = 
+returns-then-no_access c =
     let start : (Left (book_of c.args.book.now) (Nominate c.args.time c.args.sender c.args.other c.args.right c.args.side c.args.mw) (3 ∷ 5 ∷ 6 ∷ 16 ∷ 8 ∷ 9 ∷ 10 ∷ 11 ∷ 13 ∷ [])) = (nomination_left _ _ _ _ _ _ _) in
     let after1 : (Left (book_of c.args.book.now) (Nominate c.args.time c.args.sender c.args.other c.args.right c.args.side c.args.mw) (5 ∷ 6 ∷ 16 ∷ 8 ∷ 9 ∷ 10 ∷ 11 ∷ 13 ∷ [])) = (pass start (told c.nomination_field.ensures c.if-nomination_field.false)) in
     let after2 : (Left (book_of c.args.book.now) (Nominate c.args.time c.args.sender c.args.other c.args.right c.args.side c.args.mw) (6 ∷ 16 ∷ 8 ∷ 9 ∷ 10 ∷ 11 ∷ 13 ∷ [])) = (pass after1 (told c.before_clock.ensures c.if-before_clock.false)) in
@@ -87,13 +85,13 @@ returns-then-no_access c =
     refuse Access after5 (told c.no_access.ensures c.if-no_access.true) refl refl
 
 pub not_owner-requires : goal.not_owner-requires
-not_owner-requires c = 
+not_owner-requires c =
     let knows : let a = c.args in KnownNomination a.book.now a.sender a.right = (known_nomination _ _ _ _ (told c.nomination_unknown.ensures c.if-nomination_unknown.false)) in
     knows.right
 
 pub returns-then-not_owner : goal.returns-then-not_owner
 unfolding refuses not_owner refusal field clock unknown timing_of wrong_hours no_access
-returns-then-not_owner c = 
+returns-then-not_owner c =
     let start : (Left (book_of c.args.book.now) (Nominate c.args.time c.args.sender c.args.other c.args.right c.args.side c.args.mw) (3 ∷ 5 ∷ 6 ∷ 16 ∷ 8 ∷ 9 ∷ 10 ∷ 11 ∷ 13 ∷ [])) = (nomination_left _ _ _ _ _ _ _) in
     let after1 : (Left (book_of c.args.book.now) (Nominate c.args.time c.args.sender c.args.other c.args.right c.args.side c.args.mw) (5 ∷ 6 ∷ 16 ∷ 8 ∷ 9 ∷ 10 ∷ 11 ∷ 13 ∷ [])) = (pass start (told c.nomination_field.ensures c.if-nomination_field.false)) in
     let after2 : (Left (book_of c.args.book.now) (Nominate c.args.time c.args.sender c.args.other c.args.right c.args.side c.args.mw) (6 ∷ 16 ∷ 8 ∷ 9 ∷ 10 ∷ 11 ∷ 13 ∷ [])) = (pass after1 (told c.before_clock.ensures c.if-before_clock.false)) in
@@ -107,7 +105,7 @@ returns-then-not_owner c =
 
 pub returns-then-pairs_full : goal.returns-then-pairs_full
 unfolding refuses full refusal field clock unknown timing_of wrong_hours no_access not_owner
-returns-then-pairs_full c = 
+returns-then-pairs_full c =
     let start : (Left (book_of c.args.book.now) (Nominate c.args.time c.args.sender c.args.other c.args.right c.args.side c.args.mw) (3 ∷ 5 ∷ 6 ∷ 16 ∷ 8 ∷ 9 ∷ 10 ∷ 11 ∷ 13 ∷ [])) = (nomination_left _ _ _ _ _ _ _) in
     let after1 : (Left (book_of c.args.book.now) (Nominate c.args.time c.args.sender c.args.other c.args.right c.args.side c.args.mw) (5 ∷ 6 ∷ 16 ∷ 8 ∷ 9 ∷ 10 ∷ 11 ∷ 13 ∷ [])) = (pass start (told c.nomination_field.ensures c.if-nomination_field.false)) in
     let after2 : (Left (book_of c.args.book.now) (Nominate c.args.time c.args.sender c.args.other c.args.right c.args.side c.args.mw) (6 ∷ 16 ∷ 8 ∷ 9 ∷ 10 ∷ 11 ∷ 13 ∷ [])) = (pass after1 (told c.before_clock.ensures c.if-before_clock.false)) in
@@ -122,7 +120,7 @@ returns-then-pairs_full c =
 
 pub returns : goal.returns
 unfolding refuses full field clock unknown timing_of wrong_hours no_access not_owner
-returns c = 
+returns c =
     let start : (Left (book_of c.args.book.now) (Nominate c.args.time c.args.sender c.args.other c.args.right c.args.side c.args.mw) (3 ∷ 5 ∷ 6 ∷ 16 ∷ 8 ∷ 9 ∷ 10 ∷ 11 ∷ 13 ∷ [])) = (nomination_left _ _ _ _ _ _ _) in
     let after1 : (Left (book_of c.args.book.now) (Nominate c.args.time c.args.sender c.args.other c.args.right c.args.side c.args.mw) (5 ∷ 6 ∷ 16 ∷ 8 ∷ 9 ∷ 10 ∷ 11 ∷ 13 ∷ [])) = (pass start (told c.nomination_field.ensures c.if-nomination_field.false)) in
     let after2 : (Left (book_of c.args.book.now) (Nominate c.args.time c.args.sender c.args.other c.args.right c.args.side c.args.mw) (6 ∷ 16 ∷ 8 ∷ 9 ∷ 10 ∷ 11 ∷ 13 ∷ [])) = (pass after1 (told c.before_clock.ensures c.if-before_clock.false)) in

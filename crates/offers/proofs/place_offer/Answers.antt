@@ -1,12 +1,11 @@
 -- `offers::place_offer` meets its contract.
 -- Assumes nothing.
 use mathlib.Core.Path.{◌∙◌}
-use borrow.Author.Rules.{rules}
 use Rattle.offers.proofs.place_offer.Goals as goal
 
 pub returns : goal.returns
 returns c = record {
-      cells = c.cells_in.ensures;
-      left_is = c.less.ensures ∙ rw c.granted_at-granted.ensures;
-      cells_are = c.set_clock.ensures ∙ rw c.set_offered.ensures;
-    }
+  cells = c.cells_in.ensures;
+  left_is = c.less.ensures ∙ rw c.granted_at-granted.ensures;
+  cells_are = c.set_clock.ensures ∙ rw c.set_offered.ensures;
+}

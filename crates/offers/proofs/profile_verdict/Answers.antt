@@ -1,9 +1,7 @@
 -- `offers::profile_verdict` meets its contract: each test passed leaves fewer numbers, and one that holds is the first.
 -- Assumes nothing.
-use borrow.Author.Rules.{rules}
-use Prim.Native.Nat.{ℕ}
 use mathlib.Core.Path.{◌≡◌, refl}
-use mathlib.Core.List.{List, [], ◌∷◌}
+use mathlib.Core.List.{[], ◌∷◌}
 use Rattle.rules.specs.Calls.{OfferProfile}
 use Rattle.rules.specs.Refusals.{refuses, field, clock, unknown, timing_of}
 use Rattle.rules.specs.Details.{refusal}
@@ -15,20 +13,20 @@ use Rattle.offers.proofs.profile_verdict.Goals as goal
 
 pub returns-then-offer_field : goal.returns-then-offer_field
 unfolding refuses field refusal
-returns-then-offer_field c = 
+returns-then-offer_field c =
     let start : (Left (book_of c.args.book.now) (OfferProfile c.args.time c.args.profile c.args.hour.0 c.args.mw) (3 ∷ 5 ∷ 6 ∷ 16 ∷ 8 ∷ [])) = (profile_left _ _ _ _ _) in
     refuse Field start (told c.offer_field.ensures c.if-offer_field.true) refl refl
 
 pub returns-then-before_clock : goal.returns-then-before_clock
 unfolding refuses clock refusal field
-returns-then-before_clock c = 
+returns-then-before_clock c =
     let start : (Left (book_of c.args.book.now) (OfferProfile c.args.time c.args.profile c.args.hour.0 c.args.mw) (3 ∷ 5 ∷ 6 ∷ 16 ∷ 8 ∷ [])) = (profile_left _ _ _ _ _) in
     let after1 : (Left (book_of c.args.book.now) (OfferProfile c.args.time c.args.profile c.args.hour.0 c.args.mw) (5 ∷ 6 ∷ 16 ∷ 8 ∷ [])) = (pass start (told c.offer_field.ensures c.if-offer_field.false)) in
     refuse Clock after1 (told c.before_clock.ensures c.if-before_clock.true) refl refl
 
 pub returns-then-profile_hour_unknown : goal.returns-then-profile_hour_unknown
 unfolding refuses unknown refusal field clock
-returns-then-profile_hour_unknown c = 
+returns-then-profile_hour_unknown c =
     let start : (Left (book_of c.args.book.now) (OfferProfile c.args.time c.args.profile c.args.hour.0 c.args.mw) (3 ∷ 5 ∷ 6 ∷ 16 ∷ 8 ∷ [])) = (profile_left _ _ _ _ _) in
     let after1 : (Left (book_of c.args.book.now) (OfferProfile c.args.time c.args.profile c.args.hour.0 c.args.mw) (5 ∷ 6 ∷ 16 ∷ 8 ∷ [])) = (pass start (told c.offer_field.ensures c.if-offer_field.false)) in
     let after2 : (Left (book_of c.args.book.now) (OfferProfile c.args.time c.args.profile c.args.hour.0 c.args.mw) (6 ∷ 16 ∷ 8 ∷ [])) = (pass after1 (told c.before_clock.ensures c.if-before_clock.false)) in
@@ -36,7 +34,7 @@ returns-then-profile_hour_unknown c =
 
 pub returns : goal.returns
 unfolding refuses field clock unknown timing_of
-returns c = 
+returns c =
     let start : (Left (book_of c.args.book.now) (OfferProfile c.args.time c.args.profile c.args.hour.0 c.args.mw) (3 ∷ 5 ∷ 6 ∷ 16 ∷ 8 ∷ [])) = (profile_left _ _ _ _ _) in
     let after1 : (Left (book_of c.args.book.now) (OfferProfile c.args.time c.args.profile c.args.hour.0 c.args.mw) (5 ∷ 6 ∷ 16 ∷ 8 ∷ [])) = (pass start (told c.offer_field.ensures c.if-offer_field.false)) in
     let after2 : (Left (book_of c.args.book.now) (OfferProfile c.args.time c.args.profile c.args.hour.0 c.args.mw) (6 ∷ 16 ∷ 8 ∷ [])) = (pass after1 (told c.before_clock.ensures c.if-before_clock.false)) in

@@ -2,7 +2,6 @@
 -- Assumes nothing.
 use Rattle.cells.specs.View.{book_of}
 use mathlib.Core.Path.{◌∙◌}
-use borrow.Author.Rules.{rules}
 use Rattle.offers.proofs.timing.Goals as goal
 
 pub returns : goal.returns

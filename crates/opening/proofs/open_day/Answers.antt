@@ -1,8 +1,6 @@
 -- `opening::open_day` meets its contract.
 -- Assumes nothing.
 use mathlib.Core.Path.{refl, sym, ◌∙◌}
-use borrow.Author.Rules.{rules}
-use borrow.Author.Tests.{not-true, not-false}
 use Rattle.rules.specs.Basics.{between}
 use Rattle.rules.specs.Calendar.{leap, days_in, is_date}
 use Rattle.opening.proofs.Opening.{opens_refused, opens_granted}

@@ -1,7 +1,6 @@
 -- `pairs::pairs_full` meets its contract.
 -- Assumes nothing.
 use Rattle.pairs.proofs.Pairs.{full_at, there_is_one}
-use borrow.Author.Rules.{rules}
 use Rattle.pairs.proofs.pairs_full.Goals as goal
 
 pub returns-in_default : goal.returns-in_default

@@ -1,7 +1,6 @@
 -- `pairs::same_pair` meets its contract.
 -- Assumes nothing.
 use Rattle.pairs.proofs.Searches.{other_right, other_out, last_test}
-use borrow.Author.Rules.{rules}
 use Rattle.pairs.proofs.same_pair.Goals as goal
 
 pub returns-then-book-at : goal.returns-then-book-at

@@ -1,16 +1,10 @@
 -- `pairs::standing_pair` meets its contract.
 -- Assumes nothing.
-use mathlib.Core.Path.{◌≡◌, sym, ◌∙◌}
-use Prim.Native.Nat.{◌≤◌, ◌-◌}
+use mathlib.Core.Path.{sym, ◌∙◌}
 use native.Mathlib.Omega.{arith}
 use borrow.Author.Rules.{rules}
-use Rattle.rules.specs.Book.{pair_limit}
-use Rattle.cells.specs.Loops.{each}
 use Rattle.cells.proofs.Turns.{each_start, each_next, each_done, told_true, told_false}
 use Rattle.cells.specs.Search.{try_row, first_row}
-use Rattle.cells.specs.View.{pair_at}
-use Rattle.cells.specs.declared.Found.TheVariants.{Nothing}
-use Rattle.rules.specs.Nominations.{is_pair_of}
 use Rattle.pairs.specs.Search.{standing_pair}
 use Rattle.pairs.proofs.standing_pair.Goals as goal
 

@@ -2,7 +2,6 @@
 -- Assumes nothing.
 use mathlib.Core.Path.{sym, ◌∙◌}
 use Rattle.pairs.proofs.Pairs.{room_left, opened_there, found_there}
-use borrow.Author.Rules.{rules}
 use Rattle.pairs.proofs.take_pair.Goals as goal
 
 pub open_pair-requires : goal.open_pair-requires

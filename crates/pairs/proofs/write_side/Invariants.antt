@@ -1,14 +1,10 @@
 -- `pairs::write_side` meets its contract. The loop's invariant: what is left to write, from here, gives the whole.
 -- Assumes nothing.
-use mathlib.Core.Path.{◌≡◌, sym, ◌∙◌}
-use Prim.Native.Nat.{◌≤◌, ◌<◌, ◌+◌, ◌*◌, ◌-◌}
-use native.Mathlib.Omega.{arith}
-use native.Mathlib.Nat.{add-zero}
-use borrow.Author.Rules.{rules}
+use mathlib.Core.Path.{◌≡◌}
+use Prim.Native.Nat.{◌≤◌, ◌+◌, ◌*◌, ◌-◌}
 use lib.ListN.{length, drop}
 use lib.Seq.{sets}
 use Rattle.cells.specs.Layout.{CELLS, PAIRS}
-use Rattle.stores.proofs.Tables.{sets_next, sets_done}
 use Rattle.pairs.proofs.write_side.Given as goal
 
 abbrev pub invariant-loop-k : goal.invariant-loop-k

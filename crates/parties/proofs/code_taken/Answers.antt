@@ -1,17 +1,10 @@
 -- `parties::code_taken` meets its contract. The loop's invariant: the search from here on gives the answer.
 -- Assumes nothing.
-use mathlib.Core.Path.{◌≡◌, ◌∙◌}
-use mathlib.Core.Bool.{false}
-use Prim.Native.Nat.{◌≤◌, ◌-◌}
+use mathlib.Core.Path.{◌∙◌}
 use native.Mathlib.Omega.{arith}
 use borrow.Author.Rules.{rules}
-use Rattle.rules.specs.Book.{party_limit}
-use Rattle.rules.specs.Setup.{code_taken}
-use Rattle.cells.specs.Loops.{each}
-use Rattle.cells.specs.View.{book_of, party_at}
 use Rattle.cells.proofs.Turns.{each_start}
-use Rattle.parties.specs.Work.{same_code}
-use Rattle.setup.proofs.Searches.{try_row, found, not_found, none_found}
+use Rattle.setup.proofs.Searches.{found, not_found, none_found}
 use Rattle.parties.proofs.Searches.{party_search}
 use Rattle.parties.proofs.code_taken.Goals as goal
 

@@ -1,7 +1,6 @@
 -- `parties::parties_full` meets its contract.
 -- Assumes nothing.
 use Rattle.cells.proofs.Views.{party_count}
-use borrow.Author.Rules.{rules}
 use Rattle.parties.proofs.parties_full.Goals as goal
 
 pub returns : goal.returns

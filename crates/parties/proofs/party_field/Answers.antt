@@ -1,7 +1,6 @@
 -- `parties::party_field` meets its contract: each return by the tests that led to it.
 -- Assumes nothing.
 use borrow.Author.Tests.{lt-ltb, le-ltb, eq-eqb, ne_eqb}
-use borrow.Author.Rules.{rules}
 use Rattle.parties.proofs.party_field.Goals as goal
 
 pub returns-then-access-eq0 : goal.returns-then-access-eq0

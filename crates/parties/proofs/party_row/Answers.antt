@@ -1,10 +1,10 @@
 -- `parties::party_row` meets its contract. The loop's invariant: the first cells are those of the code.
 -- Assumes nothing.
 use mathlib.Core.Path.{◌≡◌, refl}
-use Prim.Native.Nat.{◌-◌, ◌≤◌, ◌<◌}
+use Prim.Native.Nat.{◌<◌}
 use native.Mathlib.Omega.{arith}
 use borrow.Author.Rules.{rules}
-use lib.ListN.{length, take, length-set}
+use lib.ListN.{length, length-set}
 use Rattle.parties.proofs.Copies.{copied_next, copied}
 use Rattle.parties.proofs.party_row.Goals as goal
 

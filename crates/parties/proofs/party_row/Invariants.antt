@@ -1,11 +1,8 @@
 -- `parties::party_row` meets its contract. The loop's invariant: the first cells are those of the code.
 -- Assumes nothing.
-use mathlib.Core.Path.{◌≡◌, refl}
-use Prim.Native.Nat.{◌-◌, ◌≤◌, ◌<◌}
-use native.Mathlib.Omega.{arith}
-use borrow.Author.Rules.{rules}
-use lib.ListN.{length, take, length-set}
-use Rattle.parties.proofs.Copies.{copied_next, copied}
+use mathlib.Core.Path.{◌≡◌}
+use Prim.Native.Nat.{◌-◌, ◌≤◌}
+use lib.ListN.{length, take}
 use Rattle.parties.proofs.party_row.Given as goal
 
 abbrev pub invariant-loop-k : goal.invariant-loop-k

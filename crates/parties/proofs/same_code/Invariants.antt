@@ -1,18 +1,15 @@
 -- `parties::same_code` meets its contract. The loop's invariant: the comparison from here on gives the answer.
 -- Assumes nothing.
-use mathlib.Core.Path.{◌≡◌, sym, ◌∙◌}
+use mathlib.Core.Path.{◌≡◌}
 use mathlib.Core.Bool.{true}
 use Prim.Native.Nat.{◌+◌, ◌*◌, ◌-◌, ◌≤◌, ◌<◌}
-use borrow.Author.Rules.{rules}
-use borrow.Author.Tests.{eq-eqb, ne_eqb}
 use lib.ListN.{length}
 use Rattle.rules.specs.Book.{party_limit}
 use Rattle.cells.specs.Layout.{PARTIES}
 use Rattle.cells.specs.Loops.{each}
 use Rattle.cells.specs.View.{party_at}
-use Rattle.cells.proofs.Turns.{each_next, each_done}
 use Rattle.parties.specs.Work.{same_code}
-use Rattle.parties.proofs.Searches.{try_byte, code_search}
+use Rattle.parties.proofs.Searches.{try_byte}
 use Rattle.parties.proofs.same_code.Given as goal
 
 abbrev pub invariant-loop-k : goal.invariant-loop-k

@@ -3,7 +3,6 @@
 use Rattle.cells.proofs.Views.{known, slot}
 use Rattle.answers.proofs.Laws.{told}
 use Rattle.reads.proofs.LeftReads.{direction_unknown_lem, direction_left_is}
-use borrow.Author.Rules.{rules}
 use Rattle.reads.proofs.left_of_direction.Goals as goal
 
 pub returns-then-direction_hour_unknown : goal.returns-then-direction_hour_unknown

@@ -4,7 +4,6 @@ use native.Mathlib.Omega.{arith}
 use Rattle.cells.proofs.Views.{known_profile}
 use Rattle.answers.proofs.Laws.{told}
 use Rattle.reads.proofs.LeftReads.{profile_unknown_lem, profile_left_is}
-use borrow.Author.Rules.{rules}
 use Rattle.reads.proofs.left_of_profile.Goals as goal
 
 pub returns-then-profile_hour_unknown : goal.returns-then-profile_hour_unknown

@@ -1,6 +1,5 @@
 -- `reads::left_read` meets its contract.
 -- Assumes nothing.
-use borrow.Author.Rules.{rules}
 use Rattle.reads.proofs.left_read.Goals as goal
 
 pub returns : goal.returns

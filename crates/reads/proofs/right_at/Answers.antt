@@ -1,8 +1,6 @@
 -- `reads::right_at` meets its contract.
 -- Assumes nothing.
 use Rattle.reads.proofs.RightReads.{right_unknown_lem, right_known}
-use mathlib.Core.Path.{◌∙◌}
-use borrow.Author.Rules.{rules}
 use Rattle.reads.proofs.right_at.Goals as goal
 
 pub returns-then-count_in-right : goal.returns-then-count_in-right

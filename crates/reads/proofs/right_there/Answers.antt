@@ -1,7 +1,6 @@
 -- `reads::right_there` meets its contract.
 -- Assumes nothing.
 use Rattle.reads.proofs.RightReads.{right_read}
-use borrow.Author.Rules.{rules}
 use Rattle.reads.proofs.right_there.Goals as goal
 
 pub returns : goal.returns

@@ -4,7 +4,6 @@ use mathlib.Core.Path.{sym, ap, ◌∙◌}
 use borrow.Author.Tests.{lt-leb, le-leb}
 use Rattle.rules.specs.Book.{right_limit}
 use Rattle.rights.specs.Work.{entry_of, entry_in}
-use borrow.Author.Rules.{rules}
 use Rattle.rights.proofs.entry_of.Goals as goal
 
 pub returns-then-count_in-lt-RIGHT_LIMIT : goal.returns-then-count_in-lt-RIGHT_LIMIT

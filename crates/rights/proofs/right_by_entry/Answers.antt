@@ -2,7 +2,6 @@
 -- Assumes nothing.
 use mathlib.Core.Path.{sym}
 use Rattle.rights.proofs.Rights.{entered_at}
-use borrow.Author.Rules.{rules}
 use Rattle.rights.proofs.right_by_entry.Goals as goal
 
 pub returns : goal.returns

@@ -2,7 +2,6 @@
 -- Assumes nothing.
 use borrow.Author.Tests.{eq-eqb, ne_eqb}
 use Rattle.rights.specs.Work.{right_for}
-use borrow.Author.Rules.{rules}
 use Rattle.rights.proofs.right_for.Goals as goal
 
 pub returns-then-model-eq1 : goal.returns-then-model-eq1

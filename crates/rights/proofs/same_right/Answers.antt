@@ -2,7 +2,6 @@
 -- Assumes nothing.
 use borrow.Author.Tests.{eq-eqb, ne_eqb}
 use Rattle.rules.specs.Bids.{is_right_of}
-use borrow.Author.Rules.{rules}
 use Rattle.rights.proofs.same_right.Goals as goal
 
 pub returns-then-right_holder-holder : goal.returns-then-right_holder-holder

@@ -1,13 +1,10 @@
 -- `rights::standing` meets its contract.
 -- Assumes nothing.
-use mathlib.Core.Path.{◌≡◌, sym, ◌∙◌}
-use Prim.Native.Nat.{◌≤◌, ◌+◌, ◌-◌}
-use native.Mathlib.Omega.{arith}
-use borrow.Author.Rules.{rules}
+use mathlib.Core.Path.{◌≡◌}
+use Prim.Native.Nat.{◌≤◌, ◌-◌}
 use Rattle.rules.specs.Book.{right_limit}
 use Rattle.cells.specs.Loops.{each}
-use Rattle.cells.proofs.Turns.{each_start, each_next, each_done, told_true, told_false}
-use Rattle.cells.specs.Search.{try_row, first_row}
+use Rattle.cells.specs.Search.{try_row}
 use Rattle.cells.specs.declared.Found.TheVariants.{Nothing}
 use Rattle.rules.specs.Bids.{is_right_of}
 use Rattle.cells.specs.View.{right_at}

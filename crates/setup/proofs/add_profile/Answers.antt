@@ -2,7 +2,6 @@
 -- Assumes nothing.
 use native.Mathlib.Omega.{arith}
 use Rattle.setup.proofs.Adding.{answers_no, adds_profile_lem, room, answers_number}
-use borrow.Author.Rules.{rules}
 use Rattle.setup.proofs.add_profile.Goals as goal
 
 pub place_row-requires : goal.place_row-requires

@@ -2,7 +2,6 @@
 -- Assumes nothing.
 use Rattle.answers.proofs.Laws.{told}
 use Rattle.setup.specs.Work.{clashes}
-use borrow.Author.Rules.{rules}
 use Rattle.setup.proofs.direction_clashes.Goals as goal
 
 pub returns-then-same_operators : goal.returns-then-same_operators

@@ -1,17 +1,10 @@
 -- `setup::direction_taken` meets its contract. The loop's invariant: the search from here on gives the answer.
 -- Assumes nothing.
-use mathlib.Core.Path.{◌≡◌, ◌∙◌}
-use mathlib.Core.Bool.{false}
-use Prim.Native.Nat.{◌≤◌, ◌-◌}
+use mathlib.Core.Path.{◌∙◌}
 use native.Mathlib.Omega.{arith}
 use borrow.Author.Rules.{rules}
-use Rattle.rules.specs.Book.{direction_limit}
-use Rattle.rules.specs.Setup.{direction_taken}
-use Rattle.cells.specs.Loops.{each}
-use Rattle.cells.specs.View.{book_of, direction_at}
 use Rattle.cells.proofs.Turns.{each_start}
-use Rattle.setup.specs.Work.{clashes}
-use Rattle.setup.proofs.Searches.{try_row, found, not_found, none_found, direction_search}
+use Rattle.setup.proofs.Searches.{found, not_found, none_found, direction_search}
 use Rattle.setup.proofs.direction_taken.Goals as goal
 
 pub loop-k-init : goal.loop-k-init

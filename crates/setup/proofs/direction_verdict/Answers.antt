@@ -1,8 +1,7 @@
 -- `setup::direction_verdict` meets its contract: test by test, what is left to test.
 -- Assumes nothing.
-use Prim.Native.Nat.{ℕ}
 use mathlib.Core.Path.{refl}
-use mathlib.Core.List.{List, [], ◌∷◌}
+use mathlib.Core.List.{[], ◌∷◌}
 use Rattle.rules.specs.Calls.{AddDirection}
 use Rattle.rules.specs.Refusals.{refuses, field, setup_shut, taken, full}
 use Rattle.rules.specs.Details.{refusal}
@@ -10,25 +9,24 @@ use Rattle.rules.specs.declared.Answer.TheVariants.{Field, SetupShut, Taken, Ful
 use Rattle.cells.specs.View.{book_of}
 use Rattle.answers.proofs.Laws.{Left, pass, refuse, none_left, told}
 use Rattle.setup.proofs.Adding.{lefts}
-use borrow.Author.Rules.{rules}
 use Rattle.setup.proofs.direction_verdict.Goals as goal
 
 pub returns-then-direction_field : goal.returns-then-direction_field
 unfolding refuses field refusal
-returns-then-direction_field c = 
+returns-then-direction_field c =
     let start : (Left (book_of c.args.book.now) (AddDirection c.args.out c.args.into c.args.model) (3 ∷ 4 ∷ 7 ∷ 13 ∷ [])) = ((lefts _).direction _ _ _) in
     refuse Field start (told c.direction_field.ensures c.if-direction_field.true) refl refl
 
 pub returns-then-setup_shut : goal.returns-then-setup_shut
 unfolding refuses setup_shut refusal field
-returns-then-setup_shut c = 
+returns-then-setup_shut c =
     let start : (Left (book_of c.args.book.now) (AddDirection c.args.out c.args.into c.args.model) (3 ∷ 4 ∷ 7 ∷ 13 ∷ [])) = ((lefts _).direction _ _ _) in
     let after1 : (Left (book_of c.args.book.now) (AddDirection c.args.out c.args.into c.args.model) (4 ∷ 7 ∷ 13 ∷ [])) = (pass start (told c.direction_field.ensures c.if-direction_field.false)) in
     refuse SetupShut after1 (told c.setup_shut.ensures c.if-setup_shut.true) refl refl
 
 pub returns-then-direction_taken : goal.returns-then-direction_taken
 unfolding refuses taken refusal field setup_shut
-returns-then-direction_taken c = 
+returns-then-direction_taken c =
     let start : (Left (book_of c.args.book.now) (AddDirection c.args.out c.args.into c.args.model) (3 ∷ 4 ∷ 7 ∷ 13 ∷ [])) = ((lefts _).direction _ _ _) in
     let after1 : (Left (book_of c.args.book.now) (AddDirection c.args.out c.args.into c.args.model) (4 ∷ 7 ∷ 13 ∷ [])) = (pass start (told c.direction_field.ensures c.if-direction_field.false)) in
     let after2 : (Left (book_of c.args.book.now) (AddDirection c.args.out c.args.into c.args.model) (7 ∷ 13 ∷ [])) = (pass after1 (told c.setup_shut.ensures c.if-setup_shut.false)) in
@@ -36,7 +34,7 @@ returns-then-direction_taken c =
 
 pub returns-then-directions_full : goal.returns-then-directions_full
 unfolding refuses full refusal field setup_shut taken
-returns-then-directions_full c = 
+returns-then-directions_full c =
     let start : (Left (book_of c.args.book.now) (AddDirection c.args.out c.args.into c.args.model) (3 ∷ 4 ∷ 7 ∷ 13 ∷ [])) = ((lefts _).direction _ _ _) in
     let after1 : (Left (book_of c.args.book.now) (AddDirection c.args.out c.args.into c.args.model) (4 ∷ 7 ∷ 13 ∷ [])) = (pass start (told c.direction_field.ensures c.if-direction_field.false)) in
     let after2 : (Left (book_of c.args.book.now) (AddDirection c.args.out c.args.into c.args.model) (7 ∷ 13 ∷ [])) = (pass after1 (told c.setup_shut.ensures c.if-setup_shut.false)) in
@@ -45,7 +43,7 @@ returns-then-directions_full c =
 
 pub returns : goal.returns
 unfolding refuses full field setup_shut taken
-returns c = 
+returns c =
     let start : (Left (book_of c.args.book.now) (AddDirection c.args.out c.args.into c.args.model) (3 ∷ 4 ∷ 7 ∷ 13 ∷ [])) = ((lefts _).direction _ _ _) in
     let after1 : (Left (book_of c.args.book.now) (AddDirection c.args.out c.args.into c.args.model) (4 ∷ 7 ∷ 13 ∷ [])) = (pass start (told c.direction_field.ensures c.if-direction_field.false)) in
     let after2 : (Left (book_of c.args.book.now) (AddDirection c.args.out c.args.into c.args.model) (7 ∷ 13 ∷ [])) = (pass after1 (told c.setup_shut.ensures c.if-setup_shut.false)) in

@@ -1,7 +1,6 @@
 -- `setup::directions_full` meets its contract.
 -- Assumes nothing.
 use Rattle.cells.proofs.Views.{direction_count}
-use borrow.Author.Rules.{rules}
 use Rattle.setup.proofs.directions_full.Goals as goal
 
 pub returns : goal.returns

@@ -2,7 +2,6 @@
 -- Assumes nothing.
 use Rattle.cells.proofs.Views.{direction_count}
 use Rattle.setup.proofs.Bits.{past_bits}
-use borrow.Author.Rules.{rules}
 use Rattle.setup.proofs.profile_unknown.Goals as goal
 
 pub returns : goal.returns

@@ -1,8 +1,7 @@
 -- `setup::profile_verdict` meets its contract: test by test, what is left to test.
 -- Assumes nothing.
-use Prim.Native.Nat.{ℕ}
 use mathlib.Core.Path.{refl}
-use mathlib.Core.List.{List, [], ◌∷◌}
+use mathlib.Core.List.{[], ◌∷◌}
 use Rattle.rules.specs.Calls.{AddProfile}
 use Rattle.rules.specs.Refusals.{refuses, field, setup_shut, unknown, full}
 use Rattle.rules.specs.Details.{refusal}
@@ -10,25 +9,24 @@ use Rattle.rules.specs.declared.Answer.TheVariants.{Field, SetupShut, Unknown, F
 use Rattle.cells.specs.View.{book_of}
 use Rattle.answers.proofs.Laws.{Left, pass, refuse, none_left, told}
 use Rattle.setup.proofs.Adding.{lefts}
-use borrow.Author.Rules.{rules}
 use Rattle.setup.proofs.profile_verdict.Goals as goal
 
 pub returns-then-profile_field : goal.returns-then-profile_field
 unfolding refuses field refusal
-returns-then-profile_field c = 
+returns-then-profile_field c =
     let start : (Left (book_of c.args.book.now) (AddProfile c.args.map) (3 ∷ 4 ∷ 6 ∷ 13 ∷ [])) = ((lefts _).profile _) in
     refuse Field start (told c.profile_field.ensures c.if-profile_field.true) refl refl
 
 pub returns-then-setup_shut : goal.returns-then-setup_shut
 unfolding refuses setup_shut refusal field
-returns-then-setup_shut c = 
+returns-then-setup_shut c =
     let start : (Left (book_of c.args.book.now) (AddProfile c.args.map) (3 ∷ 4 ∷ 6 ∷ 13 ∷ [])) = ((lefts _).profile _) in
     let after1 : (Left (book_of c.args.book.now) (AddProfile c.args.map) (4 ∷ 6 ∷ 13 ∷ [])) = (pass start (told c.profile_field.ensures c.if-profile_field.false)) in
     refuse SetupShut after1 (told c.setup_shut.ensures c.if-setup_shut.true) refl refl
 
 pub returns-then-profile_unknown : goal.returns-then-profile_unknown
 unfolding refuses unknown refusal field setup_shut
-returns-then-profile_unknown c = 
+returns-then-profile_unknown c =
     let start : (Left (book_of c.args.book.now) (AddProfile c.args.map) (3 ∷ 4 ∷ 6 ∷ 13 ∷ [])) = ((lefts _).profile _) in
     let after1 : (Left (book_of c.args.book.now) (AddProfile c.args.map) (4 ∷ 6 ∷ 13 ∷ [])) = (pass start (told c.profile_field.ensures c.if-profile_field.false)) in
     let after2 : (Left (book_of c.args.book.now) (AddProfile c.args.map) (6 ∷ 13 ∷ [])) = (pass after1 (told c.setup_shut.ensures c.if-setup_shut.false)) in
@@ -36,7 +34,7 @@ returns-then-profile_unknown c =
 
 pub returns-then-profiles_full : goal.returns-then-profiles_full
 unfolding refuses full refusal field setup_shut unknown
-returns-then-profiles_full c = 
+returns-then-profiles_full c =
     let start : (Left (book_of c.args.book.now) (AddProfile c.args.map) (3 ∷ 4 ∷ 6 ∷ 13 ∷ [])) = ((lefts _).profile _) in
     let after1 : (Left (book_of c.args.book.now) (AddProfile c.args.map) (4 ∷ 6 ∷ 13 ∷ [])) = (pass start (told c.profile_field.ensures c.if-profile_field.false)) in
     let after2 : (Left (book_of c.args.book.now) (AddProfile c.args.map) (6 ∷ 13 ∷ [])) = (pass after1 (told c.setup_shut.ensures c.if-setup_shut.false)) in
@@ -45,7 +43,7 @@ returns-then-profiles_full c =
 
 pub returns : goal.returns
 unfolding refuses full field setup_shut unknown
-returns c = 
+returns c =
     let start : (Left (book_of c.args.book.now) (AddProfile c.args.map) (3 ∷ 4 ∷ 6 ∷ 13 ∷ [])) = ((lefts _).profile _) in
     let after1 : (Left (book_of c.args.book.now) (AddProfile c.args.map) (4 ∷ 6 ∷ 13 ∷ [])) = (pass start (told c.profile_field.ensures c.if-profile_field.false)) in
     let after2 : (Left (book_of c.args.book.now) (AddProfile c.args.map) (6 ∷ 13 ∷ [])) = (pass after1 (told c.setup_shut.ensures c.if-setup_shut.false)) in

@@ -1,7 +1,6 @@
 -- `setup::profiles_full` meets its contract.
 -- Assumes nothing.
 use Rattle.cells.proofs.Views.{profile_count}
-use borrow.Author.Rules.{rules}
 use Rattle.setup.proofs.profiles_full.Goals as goal
 
 pub returns : goal.returns

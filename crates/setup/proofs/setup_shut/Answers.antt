@@ -1,7 +1,6 @@
 -- `setup::setup_shut` meets its contract.
 -- Assumes nothing.
 use Rattle.cells.specs.View.{book_of}
-use borrow.Author.Rules.{rules}
 use Rattle.setup.proofs.setup_shut.Goals as goal
 
 pub returns : goal.returns

@@ -1,6 +1,5 @@
 -- `stores::add_row` meets its contract.
 -- Assumes nothing.
-use borrow.Author.Rules.{rules}
 use Rattle.stores.specs.Stores.{with_row}
 use Rattle.stores.proofs.add_row.Goals as goal
 

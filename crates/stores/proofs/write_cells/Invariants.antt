@@ -1,13 +1,9 @@
 -- `stores::write_cells` meets its contract. The loop's invariant: what is left to write, from here, gives the whole.
 -- Assumes nothing.
-use mathlib.Core.Path.{◌≡◌, sym, ◌∙◌}
-use Prim.Native.Nat.{◌≤◌, ◌<◌, ◌+◌, ◌-◌}
-use borrow.Author.Rules.{rules}
-use native.Mathlib.Omega.{arith}
-use native.Mathlib.Nat.{add-zero}
+use mathlib.Core.Path.{◌≡◌}
+use Prim.Native.Nat.{◌≤◌, ◌+◌, ◌-◌}
 use lib.ListN.{length, drop}
 use lib.Seq.{sets}
-use Rattle.stores.proofs.Tables.{sets_next, sets_done}
 use Rattle.stores.proofs.write_cells.Given as goal
 
 abbrev pub invariant-loop-k : goal.invariant-loop-k

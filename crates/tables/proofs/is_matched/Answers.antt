@@ -1,6 +1,5 @@
 -- `tables::is_matched` meets its contract.
 -- Assumes nothing.
-use borrow.Author.Rules.{rules}
 use borrow.Author.Tests.{le-ltb}
 use Rattle.rules.specs.Refusals.{is_matched}
 use Rattle.cells.proofs.Views.{matched_at, matched_past}

@@ -1,7 +1,6 @@
 -- `tables::left_at` meets its contract.
 -- Assumes nothing.
 use Rattle.cells.proofs.Views.{left_at_lem}
-use borrow.Author.Rules.{rules}
 use Rattle.tables.proofs.left_at.Goals as goal
 
 pub returns : goal.returns

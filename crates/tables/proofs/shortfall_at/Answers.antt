@@ -1,7 +1,6 @@
 -- `tables::shortfall_at` meets its contract.
 -- Assumes nothing.
 use Rattle.cells.proofs.Views.{shortfall_at_lem}
-use borrow.Author.Rules.{rules}
 use Rattle.tables.proofs.shortfall_at.Goals as goal
 
 pub returns : goal.returns

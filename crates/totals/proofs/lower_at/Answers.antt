@@ -1,7 +1,6 @@
 -- `totals::lower_at` meets its contract.
 -- Assumes nothing.
 use Rattle.totals.proofs.Gathering.{lower_is}
-use borrow.Author.Rules.{rules}
 use Rattle.totals.proofs.lower_at.Goals as goal
 
 pub returns : goal.returns

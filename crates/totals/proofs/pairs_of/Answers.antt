@@ -1,16 +1,9 @@
 -- `totals::pairs_of` meets its contract.
 -- Assumes nothing.
-use mathlib.Core.Path.{◌≡◌, refl, sym, ◌∙◌}
-use Prim.Native.Nat.{ℕ, ◌≤◌, ◌<◌, ◌+◌, ◌-◌}
+use mathlib.Core.Path.{refl, sym, ◌∙◌}
+use Prim.Native.Nat.{◌<◌}
 use native.Mathlib.Omega.{arith}
-use borrow.Author.Rules.{rules}
-use lib.ListN.{length, take, length-set}
-use Rattle.rules.specs.Book.{pair_limit}
-use Rattle.rules.specs.Nominations.{lower_total}
-use Rattle.cells.specs.Loops.{rows}
-use Rattle.cells.specs.View.{pair_at}
-use Rattle.totals.specs.Total.{total_lower}
-use Rattle.totals.specs.Gathered.{total_in}
+use lib.ListN.{length, length-set}
 use Rattle.totals.proofs.Gathering.{gather_start, gather_pass, gather_next, gather_done}
 use Rattle.totals.proofs.pairs_of.Goals as goal
 
@@ -22,12 +15,12 @@ loop-i-preserved-then-book-i c = (((omega arith, omega arith), (omega arith, c.l
 
 pub loop-i-preserved : goal.loop-i-preserved
 loop-i-preserved c = let u : c.loop-i.count < length c.loop-i.pairs = omega arith in (
-      ((omega arith, omega arith), (omega arith, simp length-set c.loop-i.invariant.0.1.1)),
-      λ k l. gather_next _ _ k _ _ _ _ _ l c.loop-i-test.true u c.pair_in-pair.ensures c.if-book-i.false ∙ c.loop-i.invariant.1 k l,
-    )
+  ((omega arith, omega arith), (omega arith, simp length-set c.loop-i.invariant.0.1.1)),
+  λ k l. gather_next _ _ k _ _ _ _ _ l c.loop-i-test.true u c.pair_in-pair.ensures c.if-book-i.false ∙ c.loop-i.invariant.1 k l,
+)
 
 pub returns : goal.returns
 returns c = record {
-      few = omega arith;
-      sums = λ k l. sym (gather_done _ _ k _ _ _ c.loop-i-test.false) ∙ c.loop-i.invariant.1 k l;
-    }
+  few = omega arith;
+  sums = λ k l. sym (gather_done _ _ k _ _ _ c.loop-i-test.false) ∙ c.loop-i.invariant.1 k l;
+}

@@ -1,17 +1,14 @@
 -- `totals::pairs_of` meets its contract.
 -- Assumes nothing.
-use mathlib.Core.Path.{◌≡◌, refl, sym, ◌∙◌}
+use mathlib.Core.Path.{◌≡◌}
 use Prim.Native.Nat.{ℕ, ◌≤◌, ◌<◌, ◌+◌, ◌-◌}
-use native.Mathlib.Omega.{arith}
-use borrow.Author.Rules.{rules}
-use lib.ListN.{length, take, length-set}
+use lib.ListN.{length, take}
 use Rattle.rules.specs.Book.{pair_limit}
 use Rattle.rules.specs.Nominations.{lower_total}
 use Rattle.cells.specs.Loops.{rows}
 use Rattle.cells.specs.View.{pair_at}
 use Rattle.totals.specs.Total.{total_lower}
 use Rattle.totals.specs.Gathered.{total_in}
-use Rattle.totals.proofs.Gathering.{gather_start, gather_pass, gather_next, gather_done}
 use Rattle.totals.proofs.pairs_of.Given as goal
 
 abbrev pub invariant-loop-i : goal.invariant-loop-i

@@ -1,6 +1,6 @@
 -- `totals::total_lower` meets its contract: with one pair more, the sums are those of one pair more.
 -- Assumes nothing.
-use Rattle.std.proofs.Common.{◌≡◌, ℕ, ◌+◌, ◌*◌, ◌≤◌, ◌<◌, refl, sym, ◌∙◌, ap, List, [], length, take, get_or, arith}
+use Rattle.std.proofs.Common.{◌≡◌, ℕ, ◌+◌, ◌*◌, ◌≤◌, ◌<◌, refl, ◌∙◌, List, [], length, take, get_or, arith}
 use Rattle.rules.specs.Basics.{five}
 use Rattle.totals.specs.Total.{Most, sum_in, sum_of, totals}
 use Rattle.totals.proofs.Sums.{totals_next, most_next}

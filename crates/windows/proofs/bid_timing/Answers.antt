@@ -1,7 +1,6 @@
 -- `windows::bid_timing` meets its contract: the hold and the window, each as its worker says.
 -- Assumes nothing.
 use Rattle.rules.specs.Windows.{bid_timing, bids_close}
-use borrow.Author.Rules.{rules}
 use Rattle.windows.proofs.bid_timing.Goals as goal
 
 pub returns-then-is_held : goal.returns-then-is_held

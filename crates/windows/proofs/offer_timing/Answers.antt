@@ -1,7 +1,6 @@
 -- `windows::offer_timing` meets its contract: the gate of the first hour of the session that holds the hour.
 -- Assumes nothing.
 use Rattle.rules.specs.Windows.{offer_timing, bids_close}
-use borrow.Author.Rules.{rules}
 use Rattle.windows.proofs.offer_timing.Goals as goal
 
 pub returns : goal.returns

@@ -2,7 +2,6 @@
 -- Assumes nothing.
 use borrow.Author.Tests.{eq-eqb, ne_eqb}
 use Rattle.rules.specs.Windows.{opens}
-use borrow.Author.Rules.{rules}
 use Rattle.windows.proofs.session_opens.Goals as goal
 
 pub returns-then-model-eq1 : goal.returns-then-model-eq1
