@@ -9,18 +9,13 @@ use mir.Syntax.{w16}
 use lib.ListN.{get_or}
 use Rattle.rules.specs.Records.{widths, fields_of}
 use Rattle.fields.proofs.Fields.{fit_at}
-use Rattle.fields.proofs.mw_of.Statement.{statement}
-use Rattle.fields.proofs.mw_of.Tie as tie
+use Rattle.fields.proofs.mw_of.Goals as goal
 
-returns : tie.Need-returns
+pub returns : goal.returns
 unfolding widths fields_of
-returns c =
-    let mw : (i : ℕ) → Fits w16 (get_or c.before.args.call.mw i 0) = λ i. search rules in
+returns c = let mw : (i : ℕ) → Fits w16 (get_or c.args.call.mw i 0) = λ i. search rules in
     record {
       same = refl;
       each = λ i. omega (arith, mw i);
-      fits = record { hours = search rules; fields = fit_at widths (fields_of c.before.args.call) (omega (arith, mw 0, mw 1, mw 2, mw 3, mw 4)) };
+      fits = record { hours = search rules; fields = fit_at widths (fields_of c.args.call) (omega (arith, mw 0, mw 1, mw 2, mw 3, mw 4)) };
     }
-
-pub mw-of-spec : {M : Type 1} → statement M
-mw-of-spec = tie.close (tie.spec returns)
