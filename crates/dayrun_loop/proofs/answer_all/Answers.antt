@@ -13,8 +13,7 @@ pub loop-turns-preserved : goal.loop-turns-preserved
 loop-turns-preserved g c =
     let most = c.loop-turns.invariant.1.0 in
     let left = c.loop-turns-test.true in
-    let same : suc (2 ^ 64 - 1 - c.loop-turns.turns) ≡ 2 ^ 64 - 1 - (c.loop-turns.turns - 1) = omega arith in
-    (
+    let same : suc (2 ^ 64 - 1 - c.loop-turns.turns) ≡ 2 ^ 64 - 1 - (c.loop-turns.turns - 1) = omega arith in (
       goes_on _ _ _ c.loop-turns.invariant.0 (sym c.what_next-next.ensures) c.go_on-progress.ensures,
       (omega arith, rw (← same) (more _ _ _ _ c.loop-turns.invariant.1.1 (sym c.what_next-next.ensures) c.in_default.not-End c.go_on-progress.ensures)),
     )

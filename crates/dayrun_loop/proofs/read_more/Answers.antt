@@ -12,7 +12,7 @@ returns g c =
     let same : length c.to_front-moved.new.buffer ≡ length c.args.buffer.now = c.to_front-moved.auto.buffer in
     let part : length c.read.new.buf ≡ length c.to_front-moved.new.buffer - c.to_front-moved.result.to = omega (arith, c.read.auto.buf) in
     let few : c.match-read.more ≤ length c.read.new.buf = elim c.match-read.branch [
-      in-Ok w ↦ omega (arith, w.more-is, w.in-Ok.ensures.bound.0)
+      | in-Ok w ↦ omega (arith, w.more-is, w.in-Ok.ensures.bound.0)
       | in-Err w ↦ omega (arith, w.more-is)
     ] in
     reads_more _ _ c.to_front-moved.result _ _ c.match-read.more _ c.to_front-moved.ensures (omega (arith, to)) same part few c.received.ensures
