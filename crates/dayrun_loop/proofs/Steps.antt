@@ -5,7 +5,7 @@ use mathlib.Core.Path.{◌≡◌, refl, sym, ap, subst, ◌∙◌}
 use mathlib.Core.Bool.{Bool, true, false, ◌||◌, true≢false}
 use mathlib.Core.List.{List, ◌++◌}
 use native.Mathlib.Omega.{arith}
-use lib.ListN.{length, take, drop, length-append, length-take, length-drop}
+use lib.ListN.{length, take, drop, length-append, length-drop}
 use lib.Seq.{take-append-add, take-append-le, length-take-le}
 use Rattle.cells.specs.View.{book_of}
 use Rattle.dayrun_settled.specs.Settled.{longest}
@@ -23,17 +23,14 @@ use Rattle.dayrun_loop.specs.Steps.{ReadsMore, state_of, Steps, taking, writing,
 
 -- the bytes that a read put behind those at the front
 pub reads_more : (before : List ℕ) (progress moved : Progress) (front part : List ℕ) (n : ℕ) (r : Progress) → Fronted before progress moved front → moved.to < length front → length front ≡ length before
-    → length part ≡ length front - moved.to
-    → (let after = take moved.to front ++ (part ++ drop (length front - moved.to) (drop moved.to front)) in
-    n ≤ length (take (length after - moved.to) (drop moved.to after)) → r ≡ received_progress moved n → ReadsMore before progress r after)
-reads_more before progress moved front part n r f room same p l e =
+    → length part ≡ length front - moved.to → n ≤ length part → r ≡ received_progress moved n
+    → ReadsMore before progress r (take moved.to front ++ (part ++ drop (length front - moved.to) (drop moved.to front)))
+reads_more before progress moved front part n r f room same p few e =
     let fits = f.fits in
     let rest : List ℕ = drop (length front - moved.to) (drop moved.to front) in
     let none : length rest ≡ 0 = simp length-drop (omega arith) in
     let at : length (take moved.to front) ≡ moved.to = length-take-le moved.to front (omega arith) in
     let size : length (take moved.to front ++ (part ++ rest)) ≡ moved.to + length part = simp length-append (omega arith) in
-    let most = rw (length-take, length-drop, size) at l in
-    let few : n ≤ length part = omega arith in
     let more : length (take n part) ≡ n = length-take-le n part few in
     let all : take (moved.to + n) (take moved.to front ++ (part ++ rest)) ≡ take moved.to front ++ take n (part ++ rest)
     = subst (λ (k : ℕ). take (k + n) (take moved.to front ++ (part ++ rest)) ≡ take moved.to front ++ take n (part ++ rest)) at (take-append-add (take moved.to front) (part ++ rest) n) in

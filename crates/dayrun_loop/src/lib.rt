@@ -1,4 +1,4 @@
-// The loop of the program `dayrun`: it reads standard input and writes standard output as `dayrun_progress` and `stream` say.
+// The loop of the program `dayrun`: it reads its input and writes its output, standard input and standard output, as `dayrun_progress` and `stream` say.
 #![tactic(auto)]
 
 ghost use Rattle.std.specs.Prelude.{◌≡◌, ◌-◌, ◌<◌, ◌≤◌, length};
@@ -11,35 +11,42 @@ ghost use Rattle.dayrun_loop.specs.Steps.{Wrote, ReadsMore, state_of, Steps, Goe
 
 use cells::Book;
 use dayrun_progress::{Next, Progress};
+use std::io::{Read, Write};
 
 // The bytes of the buffer for the input.
 const INPUT: usize = 65536;
 
 // Writes the collected lines.
-fn write_lines(progress: Progress, text: &[u8]) -> Progress
+fn write_lines<W: Write>(writer: &mut W, progress: Progress, text: &[u8]) -> Progress
     requires { (progress.filled ≤ text_size) × (text_size ≤ length text.now) }
     ensures { Wrote progress result }
 {
     let filled = progress.filled;
-    dayrun_progress::wrote(
-        progress,
-        io::write_all(libc::STDOUT_FILENO, &text[..filled]),
-    )
+    let written = match writer.write_all(&text[..filled]) {
+        Ok(()) => true,
+        Err(_) => false,
+    };
+    dayrun_progress::wrote(progress, written)
 }
 
 // Moves what is unread to the front of the buffer, and reads once behind it. A read that fails ends the input.
-fn read_more(buffer: &mut [u8], progress: Progress) -> Progress
+fn read_more<R: Read>(reader: &mut R, buffer: &mut [u8], progress: Progress) -> Progress
     requires { Fits buffer.old progress × ((progress.to - progress.from < longest) × (longest ≤ length buffer.old)) }
     ensures { ReadsMore buffer.old progress result buffer.new }
 {
     let moved = dayrun_progress::to_front(buffer, progress);
     let to = moved.to;
-    let got = libc::read(libc::STDIN_FILENO, &mut buffer[to..]);
-    dayrun_progress::received(moved, io::count(got, &buffer[to..]))
+    let more = match reader.read(&mut buffer[to..]) {
+        Ok(count) => count,
+        Err(_) => 0,
+    };
+    dayrun_progress::received(moved, more)
 }
 
 // Takes the step that comes next.
-fn go_on(
+fn go_on<R: Read, W: Write>(
+    reader: &mut R,
+    writer: &mut W,
     book: &mut Book,
     buffer: &mut [u8],
     progress: Progress,
@@ -51,14 +58,14 @@ fn go_on(
 {
     match next {
         Next::Take => stream::answer_next(book, buffer, progress, text),
-        Next::Write => write_lines(progress, text),
-        Next::Read => read_more(buffer, progress),
+        Next::Write => write_lines(writer, progress, text),
+        Next::Read => read_more(reader, buffer, progress),
         Next::End => progress,
     }
 }
 
 // Whether the loop came to its end. A proved loop has to end, and nothing says that the input does: it counts down from a number that no input uses up.
-fn answer_all(book: &mut Book) -> bool
+fn answer_all<R: Read, W: Write>(reader: &mut R, writer: &mut W, book: &mut Book) -> bool
     requires { book_of book.old ≡ start_book }
     ensures { Loops result book.new }
 {
@@ -73,17 +80,17 @@ fn answer_all(book: &mut Book) -> bool
         if let Next::End = next {
             return true;
         }
-        progress = go_on(book, buffer, progress, text, next);
+        progress = go_on(reader, writer, book, buffer, progress, text, next);
         turns -= 1;
     }
     false
 }
 
-// The program: opens a book, and answers the records of standard input on it. Whether it came to its end.
-pub fn answer_input() -> bool
+// The program: opens a book, and answers the records of the input on it. Whether it came to its end.
+pub fn answer_input<R: Read, W: Write>(reader: &mut R, writer: &mut W) -> bool
     ensures { Answered result }
 {
     let mut book = [0u32; cells::CELLS];
     dayrun_records::open_book(&mut book);
-    answer_all(&mut book)
+    answer_all(reader, writer, &mut book)
 }

@@ -1,2 +1,1 @@
 pub mod Nexts
-pub mod Fronts

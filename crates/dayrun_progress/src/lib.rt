@@ -119,10 +119,13 @@ pub fn to_front(buffer: &mut [u8], progress: Progress) -> Progress
     let from = progress.from;
     let to = progress.to;
     let mut rest = [0u8; dayrun_settled::LONGEST];
-    let count = bytes::copy(&buffer[from..to], &mut rest);
+    let kept = &buffer[from..to];
+    let count = kept.len();
+    rest[..count].copy_from_slice(kept);
+    buffer[..count].copy_from_slice(&rest[..count]);
     Progress {
         from: 0,
-        to: bytes::copy(&rest[..count], buffer),
+        to: count,
         position: progress.position,
         ended: progress.ended,
         done: progress.done,

@@ -1,11 +1,10 @@
 -- From the reader's promise and the call's to what the record at the front of bytes does.
 -- Assumes nothing.
-use Prim.Native.Nat.{ℕ, ◌≤◌}
+use Prim.Native.Nat.{ℕ}
 use mathlib.Core.Path.{◌≡◌, refl, ap, ◌∙◌}
 use mathlib.Core.Bool.{Bool, true, false}
-use mathlib.Core.List.{List, []}
+use mathlib.Core.List.{List}
 use native.Mathlib.Omega.{arith}
-use lib.ListN.{length}
 use Rattle.rules.specs.Book.{Book}
 use Rattle.rules.specs.Calls.{no_details}
 use Rattle.rules.specs.Said.{said}

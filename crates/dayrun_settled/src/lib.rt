@@ -25,7 +25,7 @@ fn is_read_as(bytes: &[u8], kind: u8, low: u8, high: u8) -> bool
     let mut completed = [kind; LONGEST];
     completed[0] = low;
     completed[1] = high;
-    bytes::copy(bytes, &mut completed);
+    completed[..bytes.len()].copy_from_slice(bytes);
     is_read(&completed)
 }
 

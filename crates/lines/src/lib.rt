@@ -4,7 +4,7 @@
 ghost use Rattle.std.specs.Prelude.{◌≡◌, [], ◌∷◌, ◌++◌, ◌+◌, ◌≤◌, length};
 ghost use Rattle.std.proofs.lemmas.List.Edits.{sets};
 ghost use Rattle.rules.specs.Said.{said_numbers};
-ghost use Rattle.lines.specs.Text.{decimal, line_of, Put};
+ghost use Rattle.lines.specs.Text.{digits_of, decimal, line_of, Put};
 
 use rules::ReplyNumbers;
 
@@ -17,7 +17,24 @@ fn put(line: &mut [u8], at: usize, text: &[u8])
     ensures { line.new ≡ sets line.old at text.now }
 {
     let end = at + text.len();
-    bytes::copy(text, &mut line[at..end]);
+    line[at..end].copy_from_slice(text);
+}
+
+// The digits of a number at the front, at most so many of its last: how many.
+fn put_digits(digits: &mut [u8], most: usize, number: u64) -> usize
+    requires { most ≤ length digits.old }
+    ensures { Put most digits.old 0 (digits_of most number) result digits.new }
+{
+    if most == 0 {
+        return 0;
+    }
+    let count = if number < 10 {
+        0
+    } else {
+        put_digits(digits, most - 1, number / 10)
+    };
+    digits[count] = b'0' + (number % 10) as u8;
+    count + 1
 }
 
 // A number in decimal and the byte after it: the position past both.
@@ -26,7 +43,7 @@ fn put_number(line: &mut [u8], at: usize, number: u64, ending: u8) -> usize
     ensures { Put 21 line.old at (decimal number ++ (ending ∷ [])) result line.new }
 {
     let mut digits = [0u8; 20];
-    let count = io::decimal(number, &mut digits);
+    let count = put_digits(&mut digits, 20, number);
     put(line, at, &digits[..count]);
     line[at + count] = ending;
     at + count + 1

@@ -22,7 +22,7 @@ pub fn answer_next(book: &mut Book, buffer: &[u8], progress: Progress, text: &mu
     Progress {
         from: from + taken.length,
         to,
-        position: std::num::wrapping_add_u64(progress.position, 1),
+        position: progress.position.wrapping_add(1),
         ended: progress.ended,
         done: reply.number == 1,
         filled,
