@@ -1,5 +1,5 @@
 //! The rules of the day book in plain Rust, and the benchmark `callrate` on it.
-//! It prints what `target/bin/callrate` prints: `plain` runs every load, `plain LOAD` one.
+//! It prints what `crates/callrate/out/callrate` prints: `plain` runs every load, `plain LOAD` one.
 
 mod answer;
 mod bids;

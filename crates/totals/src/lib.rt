@@ -50,7 +50,7 @@ fn with_lower(sums: [u64; 5], pair: PairLower) -> [u64; 5]
     ]
 }
 
-// The sums of the lower sides over the pairs, proved by hand.
+// The sums of the lower sides over the pairs.
 fn total_lower(list: &[PairLower]) -> [u64; 5]
     requires { length list.now ≤ pair_limit }
     ensures { result ≡ totals list.now }
@@ -65,7 +65,7 @@ fn total_lower(list: &[PairLower]) -> [u64; 5]
     sums
 }
 
-// The sums over the first `count` pairs, proved by hand: its parameters are plain, so its callers need no walk.
+// The sums over the first `count` pairs of an array.
 fn total_of(list: [PairLower; MOST], count: usize) -> [u64; 5]
     requires { count ≤ pair_limit }
     ensures { result ≡ totals (take count list) }
