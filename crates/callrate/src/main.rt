@@ -117,6 +117,7 @@ fn run_reads(rt: &impl Print, word: &[u8]) -> io::Result<()> {
 
 fn main(rt: HostRuntime) -> io::Result<()> {
     let mut buffer = [0u8; 16];
+    // A word that is missing or longer than the buffer counts as none.
     let n = rt.arg(1, &mut buffer).unwrap_or(0);
     let word = &buffer[..n];
     run_changes(&rt, word)?;
