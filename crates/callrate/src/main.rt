@@ -2,7 +2,7 @@
 // `callrate LOAD` runs the load of that name, `callrate` all of them.
 #![tactic(auto)]
 
-mod reads;
+mod read_loads;
 
 use callrate_books::Tally;
 use callrate_choices::Bids;
@@ -58,9 +58,9 @@ fn make_calls(book: &mut Book, tally: &mut Tally, load: Load, rights: u32, calls
     match load {
         Load::Bids(bids) => callrate_books::make_bids(book, tally, bids, calls),
         Load::Nominate => callrate_books::make_nominations(book, rights, calls),
-        Load::Confirmed => reads::confirmed(book, rights, calls),
-        Load::Left => reads::left(book, calls),
-        Load::Right => reads::right(book, calls),
+        Load::Confirmed => read_loads::confirmed(book, rights, calls),
+        Load::Left => read_loads::left(book, calls),
+        Load::Right => read_loads::right(book, calls),
     }
 }
 
