@@ -2,6 +2,7 @@
 ghost use Rattle.std.specs.Prelude.{◌+◌, ◌≤◌, length};
 
 use cases_printing::{Tally, counted, text, word};
+use std::io;
 
 const PARTIES: [u8; 400] = *b"\
     10XCZ-CEPS-GRIDE\
@@ -97,25 +98,30 @@ fn code_at(codes: &[u8], at: usize) -> [u8; 16]
     code
 }
 
-fn code_case(tally: &mut Tally, code: [u8; 16], expected: bool) {
+fn code_case(rt: &impl Print, tally: &mut Tally, code: [u8; 16], expected: bool) -> io::Result<()> {
     let accepted = eic::is_party_code(code);
-    text(b"party code ");
-    text(&code);
-    word(b": refused|: accepted", accepted as usize);
-    word(b", expected refused|, expected accepted", expected as usize);
-    counted(tally, accepted == expected);
+    text(rt, b"party code ")?;
+    text(rt, &code)?;
+    word(rt, b": refused|: accepted", accepted as usize)?;
+    word(
+        rt,
+        b", expected refused|, expected accepted",
+        expected as usize,
+    )?;
+    counted(rt, tally, accepted == expected)
 }
 
 // Each code of a list.
-fn list_cases(tally: &mut Tally, codes: &[u8], expected: bool) {
+fn list_cases(rt: &impl Print, tally: &mut Tally, codes: &[u8], expected: bool) -> io::Result<()> {
     for k in 0..codes.len() / 16 {
-        code_case(tally, code_at(codes, 16 * k), expected);
+        code_case(rt, tally, code_at(codes, 16 * k), expected)?;
     }
+    Ok(())
 }
 
-pub fn run(tally: &mut Tally) {
+pub fn run(rt: &impl Print, tally: &mut Tally) -> io::Result<()> {
     let parties = PARTIES;
     let others = OTHERS;
-    list_cases(tally, &parties, true);
-    list_cases(tally, &others, false);
+    list_cases(rt, tally, &parties, true)?;
+    list_cases(rt, tally, &others, false)
 }

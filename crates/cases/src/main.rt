@@ -3,12 +3,14 @@
 
 mod codes;
 
-fn main() {
+use std::io;
+
+fn main(rt: HostRuntime) -> io::Result<()> {
     let mut tally = [0u32; 2];
-    codes::run(&mut tally);
-    cases_dates::run(&mut tally);
-    cases_windows::run(&mut tally);
-    cases_records::run(&mut tally);
-    cases_full::run(&mut tally);
-    cases_printing::total(&tally);
+    codes::run(&rt, &mut tally)?;
+    cases_dates::run(&rt, &mut tally)?;
+    cases_windows::run(&rt, &mut tally)?;
+    cases_records::run(&rt, &mut tally)?;
+    cases_full::run(&rt, &mut tally)?;
+    cases_printing::total(&rt, &tally)
 }

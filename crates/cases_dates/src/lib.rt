@@ -3,6 +3,7 @@
 #![tactic(auto)]
 
 use cases_printing::{Tally, counted, fill, number, text, word};
+use std::io;
 use std::num::{wrapping_add_u8, wrapping_add_u16, wrapping_sub_u8};
 
 // A year, a month and a day. There need be no such date.
@@ -12,41 +13,49 @@ struct Date(u16, u8, u8);
 // ---- cases
 
 // A hyphen and two digits.
-fn print_two_digits(part: u8) {
-    word(b"-0|-", (9 < part) as usize);
-    number(part as u32);
+fn print_two_digits(rt: &impl Print, part: u8) -> io::Result<()> {
+    word(rt, b"-0|-", (9 < part) as usize)?;
+    number(rt, part as u32)
 }
 
-fn print_date(date: Date) {
-    number(date.0 as u32);
-    print_two_digits(date.1);
-    print_two_digits(date.2);
+fn print_date(rt: &impl Print, date: Date) -> io::Result<()> {
+    number(rt, date.0 as u32)?;
+    print_two_digits(rt, date.1)?;
+    print_two_digits(rt, date.2)
 }
 
 // Nothing is printed for a weekday or hours of 0.
-fn print_day(there: bool, weekday: u8, hours: u8) {
-    word(b"no such date|", there as usize);
+fn print_day(rt: &impl Print, there: bool, weekday: u8, hours: u8) -> io::Result<()> {
+    word(rt, b"no such date|", there as usize)?;
     word(
+        rt,
         b"|Monday, |Tuesday, |Wednesday, |Thursday, |Friday, |Saturday, |Sunday, ",
         weekday as usize,
-    );
+    )?;
     if hours != 0 {
-        fill(b"# hours", &[hours as u32]);
+        fill(rt, b"# hours", &[hours as u32])?;
     }
+    Ok(())
 }
 
 // The weekday, from Monday 1 to Sunday 7, and the hours that are expected; 0 where there should be no such date.
-fn date_case(tally: &mut Tally, date: Date, weekday: u8, hours: u8) {
+fn date_case(
+    rt: &impl Print,
+    tally: &mut Tally,
+    date: Date,
+    weekday: u8,
+    hours: u8,
+) -> io::Result<()> {
     let there = calendar::is_date(date.0, date.1, date.2);
     let weekday_found = calendar::weekday(date.0, date.1, date.2);
     let hours_found = calendar::hours(date.0, date.1, date.2);
     let day_same = (weekday_found == weekday) & (hours_found == hours);
-    print_date(date);
-    text(b": ");
-    print_day(there, weekday_found, hours_found);
-    text(b", expected ");
-    print_day(weekday != 0, weekday, hours);
-    counted(tally, day_same & (there == (weekday != 0)));
+    print_date(rt, date)?;
+    text(rt, b": ")?;
+    print_day(rt, there, weekday_found, hours_found)?;
+    text(rt, b", expected ")?;
+    print_day(rt, weekday != 0, weekday, hours)?;
+    counted(rt, tally, day_same & (there == (weekday != 0)))
 }
 
 // ---- the months of a year
@@ -117,25 +126,32 @@ fn hours_on(month: u8, day: u8, weekday: u8) -> u8 {
     }
 }
 
-fn day_case(tally: &mut Tally, year: Year, month: u8, day: u8) {
+fn day_case(rt: &impl Print, tally: &mut Tally, year: Year, month: u8, day: u8) -> io::Result<()> {
     let weekday = weekday_on(year, month, day);
     let hours = hours_on(month, day, weekday);
-    date_case(tally, Date(year.0, month, day), weekday, hours);
+    date_case(rt, tally, Date(year.0, month, day), weekday, hours)
 }
 
 // The first day, the last, and the one after it, which is not there.
-fn month_cases(tally: &mut Tally, year: Year, month: u8) {
+fn month_cases(rt: &impl Print, tally: &mut Tally, year: Year, month: u8) -> io::Result<()> {
     let last = last_day(year, month);
-    day_case(tally, year, month, 1);
-    day_case(tally, year, month, last);
-    date_case(tally, Date(year.0, month, wrapping_add_u8(last, 1)), 0, 0);
+    day_case(rt, tally, year, month, 1)?;
+    day_case(rt, tally, year, month, last)?;
+    date_case(
+        rt,
+        tally,
+        Date(year.0, month, wrapping_add_u8(last, 1)),
+        0,
+        0,
+    )
 }
 
 // Every month of a common year, of a leap year, and of 2100, which is a common one.
-fn year_cases(tally: &mut Tally) {
+fn year_cases(rt: &impl Print, tally: &mut Tally) -> io::Result<()> {
     for k in 0..36u8 {
-        month_cases(tally, year_at(k / 12), 1 + k % 12);
+        month_cases(rt, tally, year_at(k / 12), 1 + k % 12)?;
     }
+    Ok(())
 }
 
 // ---- the changes of the clock
@@ -170,23 +186,24 @@ fn day_after(date: Date) -> Date {
 }
 
 // The Saturday before, the Sunday and the Monday after.
-fn change_cases(tally: &mut Tally, sunday: Date, hours: u8) {
+fn change_cases(rt: &impl Print, tally: &mut Tally, sunday: Date, hours: u8) -> io::Result<()> {
     let saturday = Date(sunday.0, sunday.1, wrapping_sub_u8(sunday.2, 1));
-    date_case(tally, saturday, 6, 24);
-    date_case(tally, sunday, 7, hours);
-    date_case(tally, day_after(sunday), 1, 24);
+    date_case(rt, tally, saturday, 6, 24)?;
+    date_case(rt, tally, sunday, 7, hours)?;
+    date_case(rt, tally, day_after(sunday), 1, 24)
 }
 
-fn both_changes(tally: &mut Tally, year: u16) {
+fn both_changes(rt: &impl Print, tally: &mut Tally, year: u16) -> io::Result<()> {
     let sundays = sundays_of(year);
-    change_cases(tally, Date(year, 3, sundays[0]), 23);
-    change_cases(tally, Date(year, 10, sundays[1]), 25);
+    change_cases(rt, tally, Date(year, 3, sundays[0]), 23)?;
+    change_cases(rt, tally, Date(year, 10, sundays[1]), 25)
 }
 
-fn clock_cases(tally: &mut Tally) {
+fn clock_cases(rt: &impl Print, tally: &mut Tally) -> io::Result<()> {
     for k in 0..15u16 {
-        both_changes(tally, 2012 + k);
+        both_changes(rt, tally, 2012 + k)?;
     }
+    Ok(())
 }
 
 // ---- dates that are not there
@@ -218,10 +235,11 @@ fn absent_at(row: usize) -> Date {
     }
 }
 
-fn absent_cases(tally: &mut Tally) {
+fn absent_cases(rt: &impl Print, tally: &mut Tally) -> io::Result<()> {
     for row in 0..ABSENT_COUNT {
-        date_case(tally, absent_at(row), 0, 0);
+        date_case(rt, tally, absent_at(row), 0, 0)?;
     }
+    Ok(())
 }
 
 // ---- dates that can be looked up
@@ -265,19 +283,20 @@ fn known_at(row: usize) -> Known {
     }
 }
 
-fn known_case(tally: &mut Tally, known: Known) {
-    date_case(tally, Date(known.0, known.1, known.2), known.3, known.4);
+fn known_case(rt: &impl Print, tally: &mut Tally, known: Known) -> io::Result<()> {
+    date_case(rt, tally, Date(known.0, known.1, known.2), known.3, known.4)
 }
 
-fn known_cases(tally: &mut Tally) {
+fn known_cases(rt: &impl Print, tally: &mut Tally) -> io::Result<()> {
     for row in 0..KNOWN_COUNT {
-        known_case(tally, known_at(row));
+        known_case(rt, tally, known_at(row))?;
     }
+    Ok(())
 }
 
-pub fn run(tally: &mut Tally) {
-    year_cases(tally);
-    clock_cases(tally);
-    absent_cases(tally);
-    known_cases(tally);
+pub fn run(rt: &impl Print, tally: &mut Tally) -> io::Result<()> {
+    year_cases(rt, tally)?;
+    clock_cases(rt, tally)?;
+    absent_cases(rt, tally)?;
+    known_cases(rt, tally)
 }

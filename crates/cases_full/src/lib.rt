@@ -4,6 +4,7 @@
 use cases_printing::{Tally, case, counted, fill, same, text, word};
 use cells::Book;
 use rules::{Answer, Hour, Session};
+use std::io;
 
 // A row for each call, or for a call that is made many times.
 const ROWS: usize = 24;
@@ -123,12 +124,12 @@ fn count_granted(book: &mut Book, row: Row, times: u16) -> u32 {
 
 // ---- cases
 
-fn count_case(tally: &mut Tally, book: &mut Book, row: Row) {
+fn count_case(rt: &impl Print, tally: &mut Tally, book: &mut Book, row: Row) -> io::Result<()> {
     let numbers = [count_granted(book, row, row[4]), row[6] as u32];
-    case(tally, b": # granted, expected #", &numbers);
+    case(rt, tally, b": # granted, expected #", &numbers)
 }
 
-fn call_case(tally: &mut Tally, book: &mut Book, row: Row) {
+fn call_case(rt: &impl Print, tally: &mut Tally, book: &mut Book, row: Row) -> io::Result<()> {
     let reply = daybook::numbers(call(book, row, row[1]));
     let numbers = [
         reply.number as u32,
@@ -138,7 +139,7 @@ fn call_case(tally: &mut Tally, book: &mut Book, row: Row) {
         row[6] as u32,
         0,
     ];
-    case(tally, b" = # # #, expected # # #", &numbers);
+    case(rt, tally, b" = # # #, expected # # #", &numbers)
 }
 
 fn right_numbers(book: &Book) -> [u32; 11] {
@@ -163,36 +164,41 @@ fn right_numbers(book: &Book) -> [u32; 11] {
 }
 
 // The last right of a full table: 1 MW of party 0 on direction 0 in session 1.
-fn right_case(tally: &mut Tally, book: &Book) {
+fn right_case(rt: &impl Print, tally: &mut Tally, book: &Book) -> io::Result<()> {
     let numbers = right_numbers(book);
-    fill(b" = # # # # # # # # # # #", &numbers);
-    text(b", expected 0 0 0 0 0 1 1 0 0 0 0");
-    counted(tally, same(&numbers, &[0, 0, 0, 0, 0, 1, 1, 0, 0, 0, 0]));
+    fill(rt, b" = # # # # # # # # # # #", &numbers)?;
+    text(rt, b", expected 0 0 0 0 0 1 1 0 0 0 0")?;
+    counted(
+        rt,
+        tally,
+        same(&numbers, &[0, 0, 0, 0, 0, 1, 1, 0, 0, 0, 0]),
+    )
 }
 
-fn row_case(tally: &mut Tally, book: &mut Book, row: Row) {
+fn row_case(rt: &impl Print, tally: &mut Tally, book: &mut Book, row: Row) -> io::Result<()> {
     if 1 < row[4] {
-        count_case(tally, book, row);
+        count_case(rt, tally, book, row)
     } else if row[0] == 7 {
-        right_case(tally, book);
+        right_case(rt, tally, book)
     } else {
-        call_case(tally, book, row);
+        call_case(rt, tally, book, row)
     }
 }
 
-fn print_tried(row: usize) {
+fn print_tried(rt: &impl Print, row: usize) -> io::Result<()> {
     let tried = TRIED;
-    word(&tried, row);
+    word(rt, &tried, row)
 }
 
-fn row_cases(tally: &mut Tally, book: &mut Book) {
+fn row_cases(rt: &impl Print, tally: &mut Tally, book: &mut Book) -> io::Result<()> {
     for row in 0..ROWS {
-        print_tried(row);
-        row_case(tally, book, row_at(row));
+        print_tried(rt, row)?;
+        row_case(rt, tally, book, row_at(row))?;
     }
+    Ok(())
 }
 
-pub fn run(tally: &mut Tally) {
+pub fn run(rt: &impl Print, tally: &mut Tally) -> io::Result<()> {
     let mut book = [0u32; cells::CELLS];
-    row_cases(tally, &mut book);
+    row_cases(rt, tally, &mut book)
 }

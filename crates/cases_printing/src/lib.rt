@@ -1,15 +1,17 @@
 // What every section prints with, on standard output, and the tally of cases.
 #![tactic(auto)]
 
+use std::io;
+
 // How many cases ran, and how many of them did not come out as expected.
 pub type Tally = [u32; 2];
 
-pub fn text(bytes: &[u8]) {
-    io::write_all(libc::STDOUT_FILENO, bytes);
+pub fn text(rt: &impl Print, bytes: &[u8]) -> io::Result<()> {
+    rt.write_all(bytes)
 }
 
-pub fn number(n: u32) {
-    io::print_decimal(libc::STDOUT_FILENO, n as u64);
+pub fn number(rt: &impl Print, n: u32) -> io::Result<()> {
+    rt.print(n)
 }
 
 // The part of a text at a place, from 0, where such bytes part it. Past the last part: the last.
@@ -30,17 +32,17 @@ pub fn part(whole: &[u8], byte: u8, place: usize) -> &[u8] {
 }
 
 // The word at a place, from 0, of a list whose words have bars between them.
-pub fn word(words: &[u8], place: usize) {
-    text(part(words, b'|', place));
+pub fn word(rt: &impl Print, words: &[u8], place: usize) -> io::Result<()> {
+    text(rt, part(words, b'|', place))
 }
 
 // A text with the numbers in place of its marks, which are '#'.
-pub fn fill(marked: &[u8], numbers: &[u32]) {
+pub fn fill(rt: &impl Print, marked: &[u8], numbers: &[u32]) -> io::Result<()> {
     for k in 0..numbers.len() {
-        text(part(marked, b'#', k));
-        number(numbers[k]);
+        text(rt, part(marked, b'#', k))?;
+        number(rt, numbers[k])?;
     }
-    text(part(marked, b'#', numbers.len()));
+    text(rt, part(marked, b'#', numbers.len()))
 }
 
 // The last hexadecimal digit of a byte.
@@ -53,12 +55,13 @@ fn hex_digit(byte: u8) -> u8 {
 }
 
 // Each byte in hexadecimal, with a space before it.
-pub fn hex(bytes: &[u8]) {
+pub fn hex(rt: &impl Print, bytes: &[u8]) -> io::Result<()> {
     for k in 0..bytes.len() {
         let byte = bytes[k];
         let digits = [b' ', hex_digit(byte / 16), hex_digit(byte)];
-        text(&digits);
+        text(rt, &digits)?;
     }
+    Ok(())
 }
 
 pub fn same(one: &[u32], other: &[u32]) -> bool {
@@ -74,19 +77,20 @@ pub fn same(one: &[u32], other: &[u32]) -> bool {
 }
 
 // Ends the line of a case and counts it.
-pub fn counted(tally: &mut Tally, as_expected: bool) {
-    word(b" NOT AS EXPECTED\n|\n", as_expected as usize);
+pub fn counted(rt: &impl Print, tally: &mut Tally, as_expected: bool) -> io::Result<()> {
+    word(rt, b" NOT AS EXPECTED\n|\n", as_expected as usize)?;
     tally[0] = std::num::wrapping_add_u32(tally[0], 1);
     tally[1] = std::num::wrapping_add_u32(tally[1], !as_expected as u32);
+    Ok(())
 }
 
 // A line of numbers: those found, then as many that were expected.
-pub fn case(tally: &mut Tally, marked: &[u8], numbers: &[u32]) {
+pub fn case(rt: &impl Print, tally: &mut Tally, marked: &[u8], numbers: &[u32]) -> io::Result<()> {
     let half = numbers.len() / 2;
-    fill(marked, numbers);
-    counted(tally, same(&numbers[0..half], &numbers[half..]));
+    fill(rt, marked, numbers)?;
+    counted(rt, tally, same(&numbers[0..half], &numbers[half..]))
 }
 
-pub fn total(tally: &Tally) {
-    fill(b"# cases, # not as expected\n", tally);
+pub fn total(rt: &impl Print, tally: &Tally) -> io::Result<()> {
+    fill(rt, b"# cases, # not as expected\n", tally)
 }

@@ -6,6 +6,7 @@ ghost use Rattle.std.specs.Prelude.{◌≡◌, ◌<◌, ◌≤◌, length};
 
 use cases_printing::{Tally, counted, fill, hex, part, same, text};
 use rules::{Answer, CallRecord, Hour, Session};
+use std::io;
 
 // A buffer is longer than any record.
 type Buffer = [u8; 24];
@@ -62,57 +63,65 @@ fn fields_of(call: CallRecord) -> [u32; 15] {
 }
 
 // The hour stands before the MW.
-fn print_call(fields: [u32; 15]) {
+fn print_call(rt: &impl Print, fields: [u32; 15]) -> io::Result<()> {
     fill(
+        rt,
         b" kind #, time #, party #, other #, direction #, profile #, session #, right #, side #",
         &fields[0..9],
-    );
-    fill(b", hour #", &fields[14..15]);
-    fill(b", MW # # # # #", &fields[9..14]);
+    )?;
+    fill(rt, b", hour #", &fields[14..15])?;
+    fill(rt, b", MW # # # # #", &fields[9..14])
 }
 
-fn print_reading(reply: [u32; 4], fields: [u32; 15]) {
+fn print_reading(rt: &impl Print, reply: [u32; 4], fields: [u32; 15]) -> io::Result<()> {
     if same(&reply, &[1, 0, 0, 0]) && same(&fields, &[0u32; 15]) {
-        text(b" answer 1 and zeros");
-        return;
+        return text(rt, b" answer 1 and zeros");
     }
-    fill(b" answer # # #, length #,", &reply);
-    print_call(fields);
+    fill(rt, b" answer # # #, length #,", &reply)?;
+    print_call(rt, fields)
 }
 
 fn reading_case(
+    rt: &impl Print,
     tally: &mut Tally,
     reply: [u32; 4],
     found: [u32; 15],
     due: [u32; 4],
     expected: [u32; 15],
-) {
-    print_reading(reply, found);
-    text(b"; expected");
-    print_reading(due, expected);
-    counted(tally, same(&reply, &due) & same(&found, &expected));
+) -> io::Result<()> {
+    print_reading(rt, reply, found)?;
+    text(rt, b"; expected")?;
+    print_reading(rt, due, expected)?;
+    counted(rt, tally, same(&reply, &due) & same(&found, &expected))
 }
 
-fn read_case(tally: &mut Tally, bytes: &[u8], due: [u32; 4], expected: [u32; 15]) {
-    text(b"read");
-    hex(bytes);
-    text(b":");
+fn read_case(
+    rt: &impl Print,
+    tally: &mut Tally,
+    bytes: &[u8],
+    due: [u32; 4],
+    expected: [u32; 15],
+) -> io::Result<()> {
+    text(rt, b"read")?;
+    hex(rt, bytes)?;
+    text(rt, b":")?;
     let read = record::read(bytes);
     let answer = read.answer;
     let reply = reply_of(answer, read.length);
     let call = read.call;
-    reading_case(tally, reply, fields_of(call), due, expected);
+    reading_case(rt, tally, reply, fields_of(call), due, expected)
 }
 
-fn refused_case(tally: &mut Tally, bytes: &[u8]) {
-    read_case(tally, bytes, [1, 0, 0, 0], [0u32; 15]);
+fn refused_case(rt: &impl Print, tally: &mut Tally, bytes: &[u8]) -> io::Result<()> {
+    read_case(rt, tally, bytes, [1, 0, 0, 0], [0u32; 15])
 }
 
 // The record cut short at each length.
-fn cut_cases(tally: &mut Tally, bytes: &[u8]) {
+fn cut_cases(rt: &impl Print, tally: &mut Tally, bytes: &[u8]) -> io::Result<()> {
     for length in 0..bytes.len() {
-        refused_case(tally, &bytes[0..length]);
+        refused_case(rt, tally, &bytes[0..length])?;
     }
+    Ok(())
 }
 
 // ---- writing
@@ -141,58 +150,78 @@ fn same_bytes(one: &[u8], other: &[u8]) -> bool {
     true
 }
 
-fn print_written(reply: [u32; 4], buffer: &[u8]) {
-    fill(b" answer # # #, buffer", &reply[0..3]);
-    hex(buffer);
+fn print_written(rt: &impl Print, reply: [u32; 4], buffer: &[u8]) -> io::Result<()> {
+    fill(rt, b" answer # # #, buffer", &reply[0..3])?;
+    hex(rt, buffer)
 }
 
 fn written_case(
+    rt: &impl Print,
     tally: &mut Tally,
     call: CallRecord,
     buffer: &mut [u8],
     due: [u32; 4],
     expected: &[u8],
-) {
+) -> io::Result<()> {
     let reply = reply_of(record::write(call, buffer), 0);
-    print_written(reply, buffer);
-    text(b"; expected");
-    print_written(due, expected);
-    counted(tally, same(&reply, &due) & same_bytes(buffer, expected));
+    print_written(rt, reply, buffer)?;
+    text(rt, b"; expected")?;
+    print_written(rt, due, expected)?;
+    counted(rt, tally, same(&reply, &due) & same_bytes(buffer, expected))
 }
 
-fn print_write(call: CallRecord, size: u32) {
+fn print_write(rt: &impl Print, call: CallRecord, size: u32) -> io::Result<()> {
     let fields = fields_of(call);
-    text(b"write");
-    print_call(fields);
-    fill(b" into # bytes:", &[size]);
+    text(rt, b"write")?;
+    print_call(rt, fields)?;
+    fill(rt, b" into # bytes:", &[size])
 }
 
 // Writes the call into a buffer of a size, which is then to begin with the bytes; where there are none, the call is to be refused.
-fn write_case(tally: &mut Tally, call: CallRecord, size: usize, bytes: &[u8])
+fn write_case(
+    rt: &impl Print,
+    tally: &mut Tally,
+    call: CallRecord,
+    size: usize,
+    bytes: &[u8],
+) -> io::Result<()>
     requires { (length bytes.now ≤ 24) × (size ≤ 24) }
 {
     let mut buffer = [UNTOUCHED; 24];
     let expected = buffer_with(bytes);
     let due = [(bytes.len() == 0) as u32, bytes.len() as u32, 0, 0];
-    print_write(call, size as u32);
-    written_case(tally, call, &mut buffer[0..size], due, &expected[0..size]);
+    print_write(rt, call, size as u32)?;
+    written_case(
+        rt,
+        tally,
+        call,
+        &mut buffer[0..size],
+        due,
+        &expected[0..size],
+    )
 }
 
 // Writes back the call that a record holds.
-fn write_back(tally: &mut Tally, record: &[u8], size: usize, bytes: &[u8])
+fn write_back(
+    rt: &impl Print,
+    tally: &mut Tally,
+    record: &[u8],
+    size: usize,
+    bytes: &[u8],
+) -> io::Result<()>
     requires { (length bytes.now ≤ 24) × (size ≤ 24) }
 {
     let call = record::read(record).call;
-    write_case(tally, call, size, bytes);
+    write_case(rt, tally, call, size, bytes)
 }
 
 // With room after the record, with just enough, and with a byte too few.
-fn write_cases(tally: &mut Tally, bytes: &[u8])
+fn write_cases(rt: &impl Print, tally: &mut Tally, bytes: &[u8]) -> io::Result<()>
     requires { (0 < length bytes.now) × (length bytes.now ≤ 20) }
 {
-    write_back(tally, bytes, bytes.len() + 2, bytes);
-    write_back(tally, bytes, bytes.len(), bytes);
-    write_back(tally, bytes, bytes.len() - 1, b"");
+    write_back(rt, tally, bytes, bytes.len() + 2, bytes)?;
+    write_back(rt, tally, bytes, bytes.len(), bytes)?;
+    write_back(rt, tally, bytes, bytes.len() - 1, b"")
 }
 
 // ---- records of each kind
@@ -254,32 +283,36 @@ fn fields_at(record: usize) -> [u32; 15] {
     }
 }
 
-fn record_case(tally: &mut Tally, bytes: &[u8], fields: [u32; 15]) {
+fn record_case(
+    rt: &impl Print,
+    tally: &mut Tally,
+    bytes: &[u8],
+    fields: [u32; 15],
+) -> io::Result<()> {
     if bytes.len() == 0 {
-        counted(tally, false);
-        return;
+        return counted(rt, tally, false);
     }
     if 20 < bytes.len() {
-        counted(tally, false);
-        return;
+        return counted(rt, tally, false);
     }
     let buffer = buffer_with(bytes);
     let due = [0, 0, 0, bytes.len() as u32];
-    read_case(tally, bytes, due, fields);
-    read_case(tally, &buffer, due, fields);
-    cut_cases(tally, bytes);
-    write_cases(tally, bytes);
+    read_case(rt, tally, bytes, due, fields)?;
+    read_case(rt, tally, &buffer, due, fields)?;
+    cut_cases(rt, tally, bytes)?;
+    write_cases(rt, tally, bytes)
 }
 
-fn record_cases(tally: &mut Tally, records: &[u8]) {
+fn record_cases(rt: &impl Print, tally: &mut Tally, records: &[u8]) -> io::Result<()> {
     for k in 0..RECORD_COUNT {
-        record_case(tally, part(records, b'|', k), fields_at(k));
+        record_case(rt, tally, part(records, b'|', k), fields_at(k))?;
     }
+    Ok(())
 }
 
-fn kinds_cases(tally: &mut Tally) {
+fn kinds_cases(rt: &impl Print, tally: &mut Tally) -> io::Result<()> {
     let records = RECORDS;
-    record_cases(tally, &records);
+    record_cases(rt, tally, &records)
 }
 
 // ---- what the writer refuses
@@ -320,19 +353,21 @@ fn call_with(kind: u8, field: u32) -> CallRecord {
 }
 
 // A field that is foreign to the kind; a kind that is none has not even a time.
-fn foreign_case(tally: &mut Tally, kind: u8, field: u32)
+fn foreign_case(rt: &impl Print, tally: &mut Tally, kind: u8, field: u32) -> io::Result<()>
     requires { field < 15 }
 {
     if (own_fields(kind) >> field) % 2 == 0 {
-        write_case(tally, call_with(kind, field), 12, b"");
+        write_case(rt, tally, call_with(kind, field), 12, b"")?;
     }
+    Ok(())
 }
 
 // Each field but the kind, for each kind and for 0 and 6.
-fn foreign_cases(tally: &mut Tally) {
+fn foreign_cases(rt: &impl Print, tally: &mut Tally) -> io::Result<()> {
     for k in 0..98u8 {
-        foreign_case(tally, k / 14, 1 + k as u32 % 14);
+        foreign_case(rt, tally, k / 14, 1 + k as u32 % 14)?;
     }
+    Ok(())
 }
 
 // ---- damaged records
@@ -456,25 +491,26 @@ const DAMAGED: [u8; 3777] = *b"\
     nomination with MW 5 of 0:\x8F\x23\x04\x14\x05\x01\x02\x2C\x01\x01\x64\x00\x00\x00|\
 ";
 
-fn damaged_case(tally: &mut Tally, row: &[u8]) {
-    text(part(row, b':', 0));
-    text(b": ");
-    refused_case(tally, part(row, b':', 1));
+fn damaged_case(rt: &impl Print, tally: &mut Tally, row: &[u8]) -> io::Result<()> {
+    text(rt, part(row, b':', 0))?;
+    text(rt, b": ")?;
+    refused_case(rt, tally, part(row, b':', 1))
 }
 
-fn damaged_cases(tally: &mut Tally, rows: &[u8]) {
+fn damaged_cases(rt: &impl Print, tally: &mut Tally, rows: &[u8]) -> io::Result<()> {
     for k in 0..DAMAGED_COUNT {
-        damaged_case(tally, part(rows, b'|', k));
+        damaged_case(rt, tally, part(rows, b'|', k))?;
     }
+    Ok(())
 }
 
-fn row_cases(tally: &mut Tally) {
+fn row_cases(rt: &impl Print, tally: &mut Tally) -> io::Result<()> {
     let rows = DAMAGED;
-    damaged_cases(tally, &rows);
+    damaged_cases(rt, tally, &rows)
 }
 
-pub fn run(tally: &mut Tally) {
-    kinds_cases(tally);
-    foreign_cases(tally);
-    row_cases(tally);
+pub fn run(rt: &impl Print, tally: &mut Tally) -> io::Result<()> {
+    kinds_cases(rt, tally)?;
+    foreign_cases(rt, tally)?;
+    row_cases(rt, tally)
 }

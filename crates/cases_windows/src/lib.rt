@@ -6,6 +6,7 @@ ghost use Rattle.std.specs.Prelude.{◌<◌, ◌≤◌};
 
 use cases_printing::{Tally, case, counted, fill, text, word};
 use rules::{Hour, Session, Timing, less};
+use std::io;
 
 // The Wednesday hold of bids.
 const HOLD_BEGINS: u32 = 1170;
@@ -43,10 +44,10 @@ struct Window {
     to: u32,
 }
 
-fn print_place(place: Place) {
+fn print_place(rt: &impl Print, place: Place) -> io::Result<()> {
     let numbers = [place.hours as u32, place.model, place.session as u32];
-    word(b"|Monday |Tuesday |Wednesday ", place.weekday as usize);
-    fill(b"# hours, #-hour session #", &numbers);
+    word(rt, b"|Monday |Tuesday |Wednesday ", place.weekday as usize)?;
+    fill(rt, b"# hours, #-hour session #", &numbers)
 }
 
 // ---- sessions and their hours
@@ -81,33 +82,41 @@ fn count_found(place: Place) -> u8 {
     0
 }
 
-fn session_case(tally: &mut Tally, place: Place, first: u32, count: u32) {
+fn session_case(
+    rt: &impl Print,
+    tally: &mut Tally,
+    place: Place,
+    first: u32,
+    count: u32,
+) -> io::Result<()> {
     let found = day::first_hour(place.hours, place.model, Session(place.session)).0;
     let numbers = [count_found(place) as u32, found as u32, count, first];
-    print_place(place);
+    print_place(rt, place)?;
     case(
+        rt,
         tally,
         b": # hours from #, expected # hours from #",
         &numbers,
-    );
+    )
 }
 
-fn hour_case(tally: &mut Tally, place: Place, hour: u32) {
+fn hour_case(rt: &impl Print, tally: &mut Tally, place: Place, hour: u32) -> io::Result<()> {
     let found = day::session_of(place.hours, place.model, Hour((hour % 256) as u8)).0;
     let numbers = [hour, found as u32, place.session as u32];
-    print_place(place);
-    fill(b", hour #: in session #, expected #", &numbers);
-    counted(tally, found == place.session);
+    print_place(rt, place)?;
+    fill(rt, b", hour #: in session #, expected #", &numbers)?;
+    counted(rt, tally, found == place.session)
 }
 
 // The session and each of its hours.
-fn hour_cases(tally: &mut Tally, place: Place) {
+fn hour_cases(rt: &impl Print, tally: &mut Tally, place: Place) -> io::Result<()> {
     let first = first_of(place);
     let last = last_of(place);
-    session_case(tally, place, first, less(last + 1, first));
+    session_case(rt, tally, place, first, less(last + 1, first))?;
     for hour in first..=last {
-        hour_case(tally, place, hour);
+        hour_case(rt, tally, place, hour)?;
     }
+    Ok(())
 }
 
 // ---- windows
@@ -217,87 +226,96 @@ fn number_of(timing: Timing) -> u32 {
     }
 }
 
-fn print_number(number: u32) {
+fn print_number(rt: &impl Print, number: u32) -> io::Result<()> {
     if number == 0 {
-        text(b" in");
-        return;
+        return text(rt, b" in");
     }
-    fill(b" #", &[number]);
+    fill(rt, b" #", &[number])
 }
 
 // Prints what comes out at each minute, and answers whether all were expected.
-fn print_found(place: Place, window: Window) -> bool {
+fn print_found(rt: &impl Print, place: Place, window: Window) -> io::Result<bool> {
     let mut same = true;
     for k in 0..4u32 {
         let minute = minute_of(window, k);
         let found = number_of(found_timing(place, window.row, minute));
-        fill(b"#", &[minute]);
-        print_number(found);
-        text(b", ");
+        fill(rt, b"#", &[minute])?;
+        print_number(rt, found)?;
+        text(rt, b", ")?;
         same = same & (found == number_of(expected_timing(place.weekday, window, minute)));
     }
-    same
+    Ok(same)
 }
 
-fn print_expected(weekday: u32, window: Window) {
+fn print_expected(rt: &impl Print, weekday: u32, window: Window) -> io::Result<()> {
     for k in 0..4u32 {
         let minute = minute_of(window, k);
-        print_number(number_of(expected_timing(weekday, window, minute)));
+        print_number(rt, number_of(expected_timing(weekday, window, minute)))?;
     }
+    Ok(())
 }
 
-fn print_name(model: u32, row: usize) {
+fn print_name(rt: &impl Print, model: u32, row: usize) -> io::Result<()> {
     if row == LAST_OFFERS && model == 1 {
-        text(b"offers for a profile: ");
-        return;
+        return text(rt, b"offers for a profile: ");
     }
     word(
+        rt,
         b"bids: |bids: |nominations: |matching: |offers: |offers: ",
         row,
-    );
+    )
 }
 
-fn print_row(place: Place, row: usize) {
+fn print_row(rt: &impl Print, place: Place, row: usize) -> io::Result<()> {
     let hour = [hour_of(place, row)];
-    print_place(place);
-    fill(b", hour #, ", &hour);
-    print_name(place.model, row);
+    print_place(rt, place)?;
+    fill(rt, b", hour #, ", &hour)?;
+    print_name(rt, place.model, row)
 }
 
-fn window_case(tally: &mut Tally, place: Place, row: usize) {
+fn window_case(rt: &impl Print, tally: &mut Tally, place: Place, row: usize) -> io::Result<()> {
     let window = window_of(place, row);
-    print_row(place, row);
-    let same = print_found(place, window);
-    text(b"expected");
-    print_expected(place.weekday, window);
-    counted(tally, same);
+    print_row(rt, place, row)?;
+    let same = print_found(rt, place, window)?;
+    text(rt, b"expected")?;
+    print_expected(rt, place.weekday, window)?;
+    counted(rt, tally, same)
 }
 
-fn window_cases(tally: &mut Tally, place: Place) {
+fn window_cases(rt: &impl Print, tally: &mut Tally, place: Place) -> io::Result<()> {
     for row in 0..6 {
         if row == HELD_BIDS && place.weekday != 3 {
             continue;
         }
-        window_case(tally, place, row);
+        window_case(rt, tally, place, row)?;
     }
+    Ok(())
 }
 
 // ---- days
 
-fn place_cases(tally: &mut Tally, place: Place) {
+fn place_cases(rt: &impl Print, tally: &mut Tally, place: Place) -> io::Result<()> {
     if place.weekday == 0 {
-        hour_cases(tally, place);
+        hour_cases(rt, tally, place)
     } else {
-        window_cases(tally, place);
+        window_cases(rt, tally, place)
     }
 }
 
 // Each session of a model, and for its hours the absent ones before the first and past the last.
-fn model_cases(tally: &mut Tally, weekday: u32, hours: u8, model: u32, sessions: u8)
+fn model_cases(
+    rt: &impl Print,
+    tally: &mut Tally,
+    weekday: u32,
+    hours: u8,
+    model: u32,
+    sessions: u8,
+) -> io::Result<()>
     requires { sessions < 26 }
 {
     for session in 1..=sessions {
         place_cases(
+            rt,
             tally,
             Place {
                 weekday,
@@ -305,10 +323,11 @@ fn model_cases(tally: &mut Tally, weekday: u32, hours: u8, model: u32, sessions:
                 model,
                 session,
             },
-        );
+        )?;
     }
     if weekday == 0 {
         session_case(
+            rt,
             tally,
             Place {
                 weekday,
@@ -318,8 +337,9 @@ fn model_cases(tally: &mut Tally, weekday: u32, hours: u8, model: u32, sessions:
             },
             0,
             0,
-        );
+        )?;
         session_case(
+            rt,
             tally,
             Place {
                 weekday,
@@ -329,33 +349,35 @@ fn model_cases(tally: &mut Tally, weekday: u32, hours: u8, model: u32, sessions:
             },
             0,
             0,
-        );
+        )?;
     }
+    Ok(())
 }
 
 // A Tuesday has 24 hours.
-fn day_cases(tally: &mut Tally, weekday: u32, hours: u8)
+fn day_cases(rt: &impl Print, tally: &mut Tally, weekday: u32, hours: u8) -> io::Result<()>
     requires { hours < 26 }
 {
     if weekday == 2 && hours != 24 {
-        print_absent(hours);
-        return;
+        return print_absent(rt, hours);
     }
-    model_cases(tally, weekday, hours, 1, hours);
-    model_cases(tally, weekday, hours, 4, 6);
+    model_cases(rt, tally, weekday, hours, 1, hours)?;
+    model_cases(rt, tally, weekday, hours, 4, 6)
 }
 
 // Both lines stand before the Tuesday's cases.
-fn print_absent(hours: u8) {
+fn print_absent(rt: &impl Print, hours: u8) -> io::Result<()> {
     word(
+        rt,
         b"Tuesday 23 hours: there is no such day\nTuesday 25 hours: there is no such day\n|",
         (hours == 25) as usize,
-    );
+    )
 }
 
 // A day of each count of hours for no weekday, Monday, Tuesday and Wednesday.
-pub fn run(tally: &mut Tally) {
+pub fn run(rt: &impl Print, tally: &mut Tally) -> io::Result<()> {
     for k in 0..12u8 {
-        day_cases(tally, k as u32 / 3, 23 + k % 3);
+        day_cases(rt, tally, k as u32 / 3, 23 + k % 3)?;
     }
+    Ok(())
 }

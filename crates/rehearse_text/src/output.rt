@@ -1,6 +1,7 @@
 // Text is put into a buffer from a position on, as far as it fits; each function answers the position past it.
 use crate::input::{byte_at, entry_at};
 use crate::{Numbers, number_at};
+use itoa::Buffer;
 
 // Room for a line and what is said of it.
 pub const TEXT: usize = 1024;
@@ -39,9 +40,9 @@ pub fn put_shown(text: &mut Text, at: usize, bytes: &[u8]) -> usize {
 
 // In decimal.
 fn put_number(text: &mut Text, at: usize, number: u64) -> usize {
-    let mut digits = [0u8; 20];
-    let count = io::decimal(number, &mut digits);
-    put_part(text, at, &digits[..count], 0, count)
+    let mut buffer = Buffer::new();
+    let digits = buffer.format(number).as_bytes();
+    put_part(text, at, digits, 0, digits.len())
 }
 
 // The letters A to J stand for the numbers of a row, any other byte for itself.

@@ -168,16 +168,16 @@ fn put_line(text: &mut Text, line: &[u8], found: Found, numbers: Numbers, day: N
     put_unfit(text, end, line, found)
 }
 
-fn print_part(bytes: &[u8], end: usize) -> bool {
+fn print_part(rt: &impl Print, bytes: &[u8], end: usize) -> bool {
     if bytes.len() < end {
         return false;
     }
-    io::write_all(libc::STDOUT_FILENO, &bytes[0..end])
+    rt.write_all(&bytes[0..end]).is_ok()
 }
 
 // Writes the text up to a position.
-fn print(text: &Text, end: usize) -> bool {
-    print_part(text, end)
+fn print(rt: &impl Print, text: &Text, end: usize) -> bool {
+    print_part(rt, text, end)
 }
 
 // Lines so far. `count` bytes of the next are there; `opened` says whether an open was called, `printed` whether all was printed.
@@ -217,21 +217,28 @@ fn counted(mut run: Run, state: u8, differs: bool) -> Run {
 }
 
 // Prints a line with the numbers of its answer; none where it has no answer. `day` has the weekday and the hours of the book.
-pub fn print_line(run: Run, line: &[u8], found: Found, numbers: Numbers, day: Numbers) -> Run {
+pub fn print_line(
+    rt: &impl Print,
+    run: Run,
+    line: &[u8],
+    found: Found,
+    numbers: Numbers,
+    day: Numbers,
+) -> Run {
     let mut text = [0u8; rehearse_text::TEXT];
     let end = put_line(&mut text, line, found, numbers, day);
     let past = put_byte(&mut text, end, b'\n');
     let mut next = counted(run, found.state, differs(found, numbers));
     next.count = 0;
-    next.printed = run.printed && print(&text, past);
+    next.printed = run.printed && print(rt, &text, past);
     next
 }
 
-pub fn print_counts(run: Run) {
+pub fn print_counts(rt: &impl Print, run: Run) {
     let mut text = [0u8; rehearse_text::TEXT];
     let answered = and(and(none(), run.answered), run.differing);
     let numbers = and(answered, run.not_understood);
     let form = wrapping_add_usize(forms::COUNTS, (run.differing == 1) as usize);
     let end = say(&mut text, 0, form, numbers);
-    print(&text, end);
+    print(rt, &text, end);
 }
