@@ -112,6 +112,7 @@ fn match_session(book: &mut Book, given: [u64; 10]) -> Answer
 }
 
 // By the kind of the line, from an offer to a matching.
+#[tactic(auto, unfolding(crate::specs::Made::timed_call))]
 fn timed_call(book: &mut Book, kind: usize, given: [u64; 10]) -> Answer
     ensures { Answers book.old (timed_call kind given) result book.new }
 {
