@@ -10,7 +10,7 @@ use Rattle.matching.specs.Work.{tally}
 use Rattle.matching.proofs.count_rights.Given as goal
 
 abbrev pub invariant-loop-i : goal.invariant-loop-i
-invariant-loop-i l = ((l.i ≤ l.rights) × ((l.rights ≤ right_limit) × (l.count ≤ l.i))) × (count_rights l.direction l.session.0 (book_of l.book).rights ≡ l.count + each (tally l.book l.direction l.session.0) (l.rights - l.i) l.i 0)
+invariant-loop-i l = ((l.i ≤ l.rights) × ((l.rights ≤ right_limit) × (l.count ≤ l.i))) × (count_rights l.direction l.fn.session.0 (book_of l.book).rights ≡ l.count + each (tally l.book l.direction l.fn.session.0) (l.rights - l.i) l.i 0)
 
 abbrev pub decreases-loop-i : goal.decreases-loop-i
 decreases-loop-i l = l.rights - l.i
