@@ -1,4 +1,4 @@
-// What every section prints with, on standard output, and the tally of cases.
+// What every section prints with, on a `Print` that it is passed, and the tally of cases.
 #![tactic(auto)]
 
 use std::io;
