@@ -16,7 +16,7 @@ use Rattle.cells.proofs.Views.{hours_few, hours_within}
 use Rattle.capacity.specs.Search.{Hours, shortage_in, found}
 use Rattle.capacity.specs.declared.Search.{Search}
 use Rattle.capacity.proofs.View.{shortage_view}
-use Rattle.bids.specs.Work.{Session-known, Searched}
+use Rattle.bids.specs.Work.{SessionKnown, Searched}
 
 -- ---- the direction and the session
 
@@ -43,7 +43,7 @@ session_hours n model d s first count w row t f c =
 
 -- ---- the search for a shortage
 
-pub searched : (b : List ℕ) (n model d s first count : ℕ) (mw : List ℕ) (r : Search) → n ≡ day_hours_in b → length mw ≡ 5 → Session-known b model d s mw
+pub searched : (b : List ℕ) (n model d s first count : ℕ) (mw : List ℕ) (r : Search) → n ≡ day_hours_in b → length mw ≡ 5 → SessionKnown b model d s mw
     → first ≡ first_hour_there n model s → count ≡ hours_in n model s → r ≡ shortage_in b d first count mw → Searched b model d s mw r
 unfolding book_of first_hour_there
 searched b n model d s first count mw r p size k f c e =

@@ -33,7 +33,7 @@ use Rattle.rights.specs.declared.Entry.{Entry}
 use Rattle.bids.specs.declared.BidVerdict.{BidVerdict}
 use Rattle.bids.specs.declared.BidVerdict.TheVariants.{Clear, No}
 use Rattle.rights.specs.Work.{Enters}
-use Rattle.bids.specs.Work.{JudgedBid, Session-known, Searched}
+use Rattle.bids.specs.Work.{JudgedBid, SessionKnown, Searched}
 
 -- the numbers that can apply to a bid
 pub bid_left : (b : Book) (t p d s : ℕ) (mw : List ℕ) → Left b (Bid t p d s mw) (3 ∷ 5 ∷ 6 ∷ 16 ∷ 8 ∷ 9 ∷ 10 ∷ 13 ∷ 15 ∷ [])
@@ -74,7 +74,7 @@ access_is b t p d s mw k = rw (access_at b p k.party, direction_at_lem b d k.dir
 -- ---- the hours of the session
 
 pub session_known : (b : List ℕ) (p d s model : ℕ) (mw : List ℕ) → KnownBid b p d s → model ≡ (direction_at b d).model
-    → (any_above 0 (drop (hours_in (book_of b).day.hours model s) mw) || not (any_above 0 mw)) ≡ false → Session-known b model d s mw
+    → (any_above 0 (drop (hours_in (book_of b).day.hours model s) mw) || not (any_above 0 mw)) ≡ false → SessionKnown b model d s mw
 session_known b p d s model mw k m e =
     record {
       row = k.rows.1;

@@ -33,7 +33,7 @@ JudgedBid b time p d s mw (No a) = Judged (book_of b) (Bid time p d s mw) (Refus
 -- ---- the search for a shortage
 
 -- the direction and its session are there, and MW for hours that the session lacks are 0
-pub record Session-known (b : List ℕ) (model d s : ℕ) (mw : List ℕ) : Type 0 where
+pub record SessionKnown (b : List ℕ) (model d s : ℕ) (mw : List ℕ) : Type 0 where
   pub row : d < direction_limit
   pub is_there : session_there (book_of b).day.hours model s ≡ true
   pub lacking : (k : ℕ) → hours_in (book_of b).day.hours model s ≤ k → get_or mw k 0 ≡ 0

@@ -11,7 +11,7 @@ ghost use Rattle.rules.specs.Refusals.{party_unknown, direction_unknown, session
 ghost use Rattle.cells.specs.Layout.{PARTIES};
 ghost use Rattle.cells.specs.View.{cell, book_of, direction_at};
 ghost use Rattle.answers.specs.Promises.{Answers};
-ghost use Rattle.bids.specs.Work.{Cleared, JudgedBid, Session-known, Searched, Placed};
+ghost use Rattle.bids.specs.Work.{Cleared, JudgedBid, SessionKnown, Searched, Placed};
 
 use answers::Verdict;
 use capacity::Search;
@@ -84,7 +84,7 @@ fn no_access(book: &Book, party: u8, direction: u8) -> bool
 
 // The search for a shortage over the hours of the session.
 fn bid_shortage(book: &Book, model: u32, direction: u8, session: Session, mw: [u16; 5]) -> Search
-    requires { Session-known book.now model direction session.0 mw }
+    requires { SessionKnown book.now model direction session.0 mw }
     ensures { Searched book.now model direction session.0 mw result }
 {
     let hours = cells::hours(book);

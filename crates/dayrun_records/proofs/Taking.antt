@@ -28,10 +28,10 @@ unfolding at_front
 front_refused b s e = rw e refl
 
 module _ (b s : List ℕ) (r : RecordRead) (a : Answer) (b' : List ℕ) (p : Reads s r) (w : AnswersRecord b r.call a b') where
-  abbrev as_read : RecordReply → Type 0
-  as_read x = (r.length ≡ x.length) × (r.call ≡ x.call)
+  abbrev AsRead : RecordReply → Type 0
+  AsRead x = (r.length ≡ x.length) × (r.call ≡ x.call)
 
-  same : as_read (reading s)
+  same : AsRead (reading s)
   same = (ap (λ (x : RecordReply). x.length) p.reply, ap (λ (x : RecordReply). x.call) p.reply)
 
   -- the record was read: its call is answered

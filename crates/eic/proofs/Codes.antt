@@ -55,9 +55,9 @@ unfolding is_code
 no_code code e none = rw (e, none)
 
 -- what is left to test of sixteen characters, by the last one's value and the weighted sum
-abbrev pub IsCode-left : List ℕ → ℕ → ℕ → Type 0
-IsCode-left code last sum = is_code code ≡ (eqb (get_or code 2 0) 88 && eqb last (36 - (sum - 1) % 37) && not (eqb last 36))
+abbrev pub IsCodeLeft : List ℕ → ℕ → ℕ → Type 0
+IsCodeLeft code last sum = is_code code ≡ (eqb (get_or code 2 0) 88 && eqb last (36 - (sum - 1) % 37) && not (eqb last 36))
 
-pub code_left : (code : List ℕ) (last sum : ℕ) → length code ≡ 16 → all_chars code ≡ true → last ≡ char_value (get_or code 15 0) → weighted_sum code ≡ sum → IsCode-left code last sum
+pub code_left : (code : List ℕ) (last sum : ℕ) → length code ≡ 16 → all_chars code ≡ true → last ≡ char_value (get_or code 15 0) → weighted_sum code ≡ sum → IsCodeLeft code last sum
 unfolding is_code
 code_left code last sum e chars value summed = rw (e, chars, value, ← summed)

@@ -11,9 +11,9 @@ use Rattle.rules.specs.Basics.{bit}
 use Rattle.answers.proofs.has_access.Goals as goal
 
 -- a number of 32 bits has no bit past them
-far-bit : (map i : ℕ) → map < 2 ^ 32 → 32 ≤ i → bit map i ≡ false
+far_bit : (map i : ℕ) → map < 2 ^ 32 → 32 ≤ i → bit map i ≡ false
 unfolding bit
-far-bit map i l h = rw (div-eq_of_lt (le_trans l (pow_mono h)))
+far_bit map i l h = rw (div-eq_of_lt (le_trans l (pow_mono h)))
 
 pub returns-then-operator-lt32 : goal.returns-then-operator-lt32
 unfolding bit
@@ -21,4 +21,4 @@ returns-then-operator-lt32 c = refl
 
 pub returns-else-operator-lt32 : goal.returns-else-operator-lt32
 returns-else-operator-lt32 c = let l : c.args.map < 2 ^ 32 = omega arith in
-    rw (far-bit c.args.map c.args.operator l c.if-operator-lt32.false) (le-ltb _ 32 c.if-operator-lt32.false)
+    rw (far_bit c.args.map c.args.operator l c.if-operator-lt32.false) (le-ltb _ 32 c.if-operator-lt32.false)

@@ -8,7 +8,7 @@ use borrow.Author.Tests.{eq-eqb, ne_eqb}
 use native.Mathlib.Omega.{arith}
 use lib.ListN.{length, drop, get_or}
 use Rattle.rules.specs.Codes.{char_value, all_chars, weighted_sum}
-use Rattle.eic.proofs.Codes.{char_there, no_char, all_done, fifteen_next, fifteen_done, no_code, IsCode-left, code_left}
+use Rattle.eic.proofs.Codes.{char_there, no_char, all_done, fifteen_next, fifteen_done, no_code, IsCodeLeft, code_left}
 use Rattle.eic.proofs.is_party_code.Goals as goal
 
 pub returns-in_default : goal.returns-in_default
@@ -27,7 +27,7 @@ loop-k-preserved c = let code = c.args.code in
     let char = c.char_value.ensures in
     let e : v ≡ char_value (get_or code k 0) = rw c.in-Is.is at char.value in
     let inside : k < length code = omega arith in
-    let weighted-one : k < 15 = omega arith in (
+    let weighted_one : k < 15 = omega arith in (
       omega arith,
       inv.1 ∙ rw (fifteen_next code k inv.0.1, ← e, c.weighed-sum.ensures.0) (omega arith),
       inv.2 ∙ char_there code k v inside e (char.below v c.in-Is.is),
@@ -53,7 +53,7 @@ returns-then-code-ne88 c =
     let all : c.loop-k.k ≡ 15 = omega arith in
     let left = rw all at inv.1 in
     (left ∙ rw (fifteen_done code 1 inv.0.1) (omega arith), rw all at inv.2)) in
-    let left-to-test : IsCode-left c.args.code c.in-Is-char_value.last c.loop-k.sum = (let code = c.args.code in
+    let left_to_test : IsCodeLeft c.args.code c.in-Is-char_value.last c.loop-k.sum = (let code = c.args.code in
     let inv = c.loop-k.invariant in
     let inside : 15 < length code = omega arith in
     let told = c.in-Is-char_value.is in
@@ -62,7 +62,7 @@ returns-then-code-ne88 c =
     let e : v ≡ char_value (get_or code 15 0) = rw told at char.value in
     let chars : all_chars code ≡ true = seen.1 ∙ char_there code 15 v inside e (char.below v told) ∙ all_done code inv.0.1 in
     code_left code v _ inv.0.1 chars e seen.0) in
-    rw (left-to-test, ne_eqb (get_or c.args.code 2 0) 88 c.if-code-ne88.true)
+    rw (left_to_test, ne_eqb (get_or c.args.code 2 0) 88 c.if-code-ne88.true)
 
 pub returns-then-last-check_value : goal.returns-then-last-check_value
 returns-then-last-check_value c =
@@ -71,7 +71,7 @@ returns-then-last-check_value c =
     let all : c.loop-k.k ≡ 15 = omega arith in
     let left = rw all at inv.1 in
     (left ∙ rw (fifteen_done code 1 inv.0.1) (omega arith), rw all at inv.2)) in
-    let left-to-test : IsCode-left c.args.code c.in-Is-char_value.last c.loop-k.sum = (let code = c.args.code in
+    let left_to_test : IsCodeLeft c.args.code c.in-Is-char_value.last c.loop-k.sum = (let code = c.args.code in
     let inv = c.loop-k.invariant in
     let inside : 15 < length code = omega arith in
     let told = c.in-Is-char_value.is in
@@ -80,7 +80,7 @@ returns-then-last-check_value c =
     let e : v ≡ char_value (get_or code 15 0) = rw told at char.value in
     let chars : all_chars code ≡ true = seen.1 ∙ char_there code 15 v inside e (char.below v told) ∙ all_done code inv.0.1 in
     code_left code v _ inv.0.1 chars e seen.0) in
-    rw (left-to-test, eq-eqb _ _ c.if-code-ne88.false, ← c.check_value.ensures, eq-eqb _ _ c.if-last-check_value.true)
+    rw (left_to_test, eq-eqb _ _ c.if-code-ne88.false, ← c.check_value.ensures, eq-eqb _ _ c.if-last-check_value.true)
 
 pub returns-else-last-check_value : goal.returns-else-last-check_value
 returns-else-last-check_value c =
@@ -89,7 +89,7 @@ returns-else-last-check_value c =
     let all : c.loop-k.k ≡ 15 = omega arith in
     let left = rw all at inv.1 in
     (left ∙ rw (fifteen_done code 1 inv.0.1) (omega arith), rw all at inv.2)) in
-    let left-to-test : IsCode-left c.args.code c.in-Is-char_value.last c.loop-k.sum = (let code = c.args.code in
+    let left_to_test : IsCodeLeft c.args.code c.in-Is-char_value.last c.loop-k.sum = (let code = c.args.code in
     let inv = c.loop-k.invariant in
     let inside : 15 < length code = omega arith in
     let told = c.in-Is-char_value.is in
@@ -98,4 +98,4 @@ returns-else-last-check_value c =
     let e : v ≡ char_value (get_or code 15 0) = rw told at char.value in
     let chars : all_chars code ≡ true = seen.1 ∙ char_there code 15 v inside e (char.below v told) ∙ all_done code inv.0.1 in
     code_left code v _ inv.0.1 chars e seen.0) in
-    rw (left-to-test, eq-eqb _ _ c.if-code-ne88.false, ← c.check_value.ensures, ne_eqb _ _ c.if-last-check_value.false)
+    rw (left_to_test, eq-eqb _ _ c.if-code-ne88.false, ← c.check_value.ensures, ne_eqb _ _ c.if-last-check_value.false)

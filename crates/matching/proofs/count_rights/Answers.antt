@@ -15,8 +15,8 @@ loop-i-init c = (omega (arith, c.count_in-rights.ensures), rw (c.count_in-rights
 pub loop-i-preserved : goal.loop-i-preserved
 unfolding tally
 loop-i-preserved c =
-    let few-more : c.count_right-count.result ≤ 1 = (rw c.count_right-count.ensures (one_at_most _ _ _)) in
-    let few = few-more in
+    let few_more : c.count_right-count.result ≤ 1 = (rw c.count_right-count.ensures (one_at_most _ _ _)) in
+    let few = few_more in
     (omega arith, c.loop-i.invariant.1 ∙ rw (each_next _ _ _ _ c.loop-i-test.true, c.count_right-count.ensures, add_assoc) refl)
 
 pub returns : goal.returns
@@ -24,5 +24,5 @@ returns c = sym (c.loop-i.invariant.1 ∙ rw (each_done _ _ _ _ c.loop-i-test.fa
 
 pub overflow_add-count : goal.overflow_add-count
 overflow_add-count c =
-    let few-more : c.count_right-count.result ≤ 1 = (rw c.count_right-count.ensures (one_at_most _ _ _)) in
-    let few = few-more in omega arith
+    let few_more : c.count_right-count.result ≤ 1 = (rw c.count_right-count.ensures (one_at_most _ _ _)) in
+    let few = few_more in omega arith
