@@ -1,53 +1,46 @@
 -- From the tests of a call to its verdict, and from the verdict to the promise of the call.
 -- Assumes nothing.
+use Rattle.std.specs.Prelude.{Result, Ok, Err}
 use Prim.Native.Nat.{ℕ}
-use mathlib.Core.Path.{◌≡◌, refl, sym, ap, ◌∙◌}
-use mathlib.Core.Bool.{Bool, true, false, ◌||◌, true≢false}
+use mathlib.Core.Path.{◌≡◌, refl, sym, ap, subst, ◌∙◌}
+use mathlib.Core.Bool.{Bool, true, false, true≢false}
 use mathlib.Core.List.{List, [], ◌∷◌}
+use native.Mathlib.Omega.{arith}
 use lib.Dec.{eqb}
 use borrow.Author.Tests.{eq-eqb}
 use Rattle.rules.specs.Book.{Book}
 use Rattle.rules.specs.Calls.{Call}
-use Rattle.rules.specs.Said.{said}
+use Rattle.rules.specs.Said.{said_refusal}
 use Rattle.rules.specs.Refusals.{first_of, timing_of, too_early, too_late, refuses, number}
 use Rattle.rules.specs.Effects.{effect}
 use Rattle.rules.specs.Details.{detail, refusal}
 use Rattle.rules.specs.Run.{applied}
-use Rattle.rules.specs.declared.Answer.{Answer}
-use Rattle.rules.specs.declared.Answer.TheVariants.{TooEarly, TooLate}
+use Rattle.rules.specs.declared.Refusal.{Refusal}
+use Rattle.rules.specs.declared.Refusal.TheVariants.{TooEarly, TooLate}
 use Rattle.rules.specs.declared.Timing.{Timing}
 use Rattle.rules.specs.declared.Timing.TheVariants.{Early, Within, Late}
 use Rattle.cells.specs.View.{book_of}
-use Rattle.answers.specs.declared.Verdict.{Verdict}
-use Rattle.answers.specs.declared.Verdict.TheVariants.{Clear, No}
-use Rattle.answers.specs.Promises.{Answers, Judged, window_verdict}
+use Rattle.answers.specs.Promises.{Answers, Refused, Judged, window_verdict}
 
 -- ---- from a verdict to the promise
 
-pub refused : (b : List ℕ) (c : Call) (a : Answer) → Judged (book_of b) c (No a) → Answers b c a b
+pub refused : (b : List ℕ) (c : Call) (r : Refusal) → Refused (book_of b) c r → Answers b c (Err r) b
 unfolding applied
-refused b c a j = record { reply = rw j.0 j.1; book = rw j.0; kept = λ e. refl }
+refused b c r j = record { reply = rw j.0 j.1; book = rw j.0; kept = λ e. refl }
 
-pub granted : (b b' : List ℕ) (c : Call) (a : Answer) → Judged (book_of b) c Clear
-    → said a ≡ record { number = 0; first = detail (book_of b) c; second = 0 } → book_of b' ≡ effect (book_of b) c → Answers b c a b'
+pub granted : (b b' : List ℕ) (c : Call) (n : ℕ) → number (book_of b) c ≡ 0 → n ≡ detail (book_of b) c → book_of b' ≡ effect (book_of b) c → Answers b c (Ok n) b'
 unfolding applied
-granted b b' c a j s e =
+granted b b' c n j s e =
     record {
-      reply = rw (eq-eqb _ _ j) s;
+      reply = rw (eq-eqb _ _ j, s);
       book = rw (eq-eqb _ _ j) e;
-      kept = λ f. absurd (true≢false (rw s at f));
+      kept = λ f. absurd (true≢false f);
     }
 
 -- ---- a test whose answer a call gave
 
 pub told : {r t x : Bool} → r ≡ t → r ≡ x → t ≡ x
 told e h = sym e ∙ h
-
-pub told_or : {r t : Bool} (x : Bool) → r ≡ t → r ≡ true → (t || x) ≡ true
-told_or x e h = rw (← e, h)
-
-pub told_next : {r t : Bool} (x : Bool) → r ≡ t → r ≡ false → (t || x) ≡ x
-told_next x e h = rw (← e, h)
 
 -- ---- from the tests to a verdict
 
@@ -59,15 +52,15 @@ pub pass : {b : Book} {c : Call} {n : ℕ} {ns : List ℕ} → Left b c (n ∷ n
 unfolding first_of
 pass l e = record { number_is = l.number_is ∙ rw e }
 
-pub refuse : {b : Book} {c : Call} {n : ℕ} {ns : List ℕ} (a : Answer) → Left b c (n ∷ ns) → refuses b c n ≡ true → eqb n 0 ≡ false
-    → said a ≡ refusal b c n → Judged b c (No a)
+pub refuse : {b : Book} {c : Call} {n : ℕ} {ns : List ℕ} (r : Refusal) → Left b c (n ∷ ns) → refuses b c n ≡ true → eqb n 0 ≡ false
+    → said_refusal r ≡ refusal b c n → Refused b c r
 unfolding first_of
-refuse a l e z s = rw (l.number_is, e) (z, s)
+refuse r l e z s = rw (l.number_is, e) (z, s)
 
 -- what the window finds decides on 16 and 8: a refusal, or the numbers after them are left
-abbrev pub ByWindow : Book → Call → List ℕ → Verdict → Type 0
-ByWindow b c ns Clear = Left b c ns
-ByWindow b c ns (No a) = Judged b c (No a)
+abbrev ByWindow : Book → Call → List ℕ → Result Unit Refusal → Type 0
+ByWindow b c ns (Ok _) = Left b c ns
+ByWindow b c ns (Err r) = Refused b c r
 
 pub by_window : {b : Book} {c : Call} {ns : List ℕ} {t : Timing} → Left b c (16 ∷ 8 ∷ ns) → t ≡ timing_of b c → ByWindow b c ns (window_verdict t)
 unfolding refuses refusal
@@ -75,7 +68,13 @@ by_window {t = Early} l e = refuse TooEarly l (ap too_early (sym e)) refl refl
 by_window {t = Within} l e = pass (pass l (ap too_early (sym e))) (ap too_late (sym e))
 by_window {t = Late} l e = refuse TooLate (pass l (ap too_early (sym e))) (ap too_late (sym e)) refl refl
 
-pub none_left : {b : Book} {c : Call} → Left b c [] → Judged b c Clear
+pub window_refused : {b : Book} {c : Call} {ns : List ℕ} {t : Timing} {r : Refusal} → Left b c (16 ∷ 8 ∷ ns) → t ≡ timing_of b c → Err r ≡ window_verdict t → Refused b c r
+window_refused {b} {c} {ns} l e q = subst (ByWindow b c ns) (sym q) (by_window l e)
+
+pub window_passed : {b : Book} {c : Call} {ns : List ℕ} {t : Timing} {x : Unit {0}} → Left b c (16 ∷ 8 ∷ ns) → t ≡ timing_of b c → Ok x ≡ window_verdict t → Left b c ns
+window_passed {b} {c} {ns} l e q = subst (ByWindow b c ns) (sym q) (by_window l e)
+
+pub none_left : {b : Book} {c : Call} → Left b c [] → number b c ≡ 0
 unfolding first_of
 none_left l = l.number_is
 

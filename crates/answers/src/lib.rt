@@ -1,45 +1,36 @@
 // What the calls answer: a verdict before anything is stored, the replies of the reads, and the numbers of an answer. What each call promises stands in specs/.
 #![tactic(auto)]
 
-ghost use Rattle.std.specs.Prelude.{◌≡◌, ◌||◌, ltb};
-ghost use Rattle.rules.specs.Basics.{bit};
-ghost use Rattle.rules.specs.Said.{said, said_numbers, capacity_number};
+ghost use Rattle.std.specs.Prelude.{◌≡◌, ltb};
+ghost use Rattle.rules.specs.Said.{said, said_refusal, said_numbers, capacity_number};
 ghost use Rattle.rules.specs.Refusals.{party_unknown, direction_unknown, profile_unknown, hour_unknown};
 ghost use Rattle.cells.specs.View.{book_of};
 ghost use Rattle.answers.specs.Promises.{window_verdict};
+ghost use Rattle.answers.specs.Capacities.{capacity_unknown, Finds};
 
-use cells::Book;
-use rules::{Answer, CapacityOf, Hour, ReplyNumbers, Session, Timing};
+use cells::{Book, Place};
+use rules::{Answer, CapacityOf, Hour, Refusal, ReplyNumbers, Session, Timing};
 
-// What the tests of a call find: nothing against it, or the refusal.
-#[derive(Clone, Copy)]
-pub enum Verdict {
-    Clear,
-    No(Answer),
+// What an offer is for and a read of what is left asks for: a direction or a profile, by number.
+#[derive(Clone, Copy, PartialEq, Eq)]
+pub enum Capacity {
+    Direction(u8),
+    Profile(u8),
 }
 
-// Capacity left, and the shortfall; zeros where refused.
-#[derive(Clone, Copy)]
+// Capacity left, and the shortfall.
+#[derive(Clone, Copy, PartialEq, Eq)]
 pub struct LeftRead {
-    pub answer: Answer,
     pub left: u32,
     pub shortfall: u32,
 }
 
-// A right; zeros where refused.
-#[derive(Clone, Copy)]
+// A right.
+#[derive(Clone, Copy, PartialEq, Eq)]
 pub struct RightRead {
-    pub answer: Answer,
     pub holder: u8,
     pub direction: u8,
     pub session: Session,
-    pub mw: [u32; 5],
-}
-
-// The confirmed MW of a pair; zeros where refused.
-#[derive(Clone, Copy)]
-pub struct ConfirmedRead {
-    pub answer: Answer,
     pub mw: [u32; 5],
 }
 
@@ -55,7 +46,7 @@ pub fn before_clock(book: &Book, time: u32) -> bool
 pub fn direction_unknown(book: &Book, direction: u8) -> bool
     ensures { result ≡ direction_unknown (book_of book.now) direction }
 {
-    cells::count_in(book, cells::DIRECTIONS, cells::DIRECTION_LIMIT) <= direction as u32
+    cells::DIRECTIONS.count(book) <= direction as u32
 }
 
 pub fn hour_unknown(book: &Book, hour: Hour) -> bool
@@ -65,47 +56,56 @@ pub fn hour_unknown(book: &Book, hour: Hour) -> bool
     number < 1 || cells::hours(book) < number
 }
 
-pub fn direction_hour_unknown(book: &Book, direction: u8, hour: Hour) -> bool
-    ensures { result ≡ (direction_unknown (book_of book.now) direction || hour_unknown (book_of book.now) hour.0) }
+fn profile_unknown(book: &Book, profile: u8) -> bool
+    ensures { result ≡ profile_unknown (book_of book.now) profile }
 {
-    direction_unknown(book, direction) || hour_unknown(book, hour)
+    cells::PROFILES.count(book) <= profile as u32
 }
 
-pub fn profile_hour_unknown(book: &Book, profile: u8, hour: Hour) -> bool
-    ensures { result ≡ (profile_unknown (book_of book.now) profile || hour_unknown (book_of book.now) hour.0) }
+fn capacity_unknown(book: &Book, capacity: Capacity) -> bool
+    ensures { result ≡ capacity_unknown (book_of book.now) capacity }
 {
-    cells::count_in(book, cells::PROFILES, cells::PROFILE_LIMIT) <= profile as u32
-        || hour_unknown(book, hour)
+    match capacity {
+        Capacity::Direction(direction) => direction_unknown(book, direction),
+        Capacity::Profile(profile) => profile_unknown(book, profile),
+    }
+}
+
+// The capacity's place in an hour; none where it or the hour isn't there.
+pub fn place_in(book: &Book, capacity: Capacity, hour: Hour) -> Option<Place>
+    ensures { Finds (book_of book.now) capacity hour result }
+{
+    if capacity_unknown(book, capacity) || hour_unknown(book, hour) {
+        return None;
+    }
+    let row = match capacity {
+        Capacity::Direction(direction) => direction,
+        Capacity::Profile(profile) => cells::PROFILE_ROW + profile,
+    };
+    Some(Place { row, hour })
 }
 
 pub fn party_unknown(book: &Book, party: u8) -> bool
     ensures { result ≡ party_unknown (book_of book.now) party }
 {
-    cells::count_in(book, cells::PARTIES, cells::PARTY_LIMIT) <= party as u32
-}
-
-// The bit of an operator in an access map; operators past the map have none.
-pub fn has_access(map: u32, operator: u32) -> bool
-    ensures { result ≡ bit map operator }
-{
-    operator < 32 && (map >> operator) % 2 == 1
+    cells::PARTIES.count(book) <= party as u32
 }
 
 // What the window of a call finds.
-pub fn window_verdict(timing: Timing) -> Verdict
+pub fn window_verdict(timing: Timing) -> Result<(), Refusal>
     ensures { result ≡ window_verdict timing }
 {
     match timing {
-        Timing::Early => Verdict::No(Answer::TooEarly),
-        Timing::Within => Verdict::Clear,
-        Timing::Late => Verdict::No(Answer::TooLate),
+        Timing::Early => Err(Refusal::TooEarly),
+        Timing::Within => Ok(()),
+        Timing::Late => Err(Refusal::TooLate),
     }
 }
 
 // ---- the paper's numbers
 
 // A refusal with no details.
-fn refused(number: u8) -> ReplyNumbers
+fn no_details(number: u8) -> ReplyNumbers
     ensures { result ≡ record { number = number; first = 0; second = 0 } }
 {
     ReplyNumbers {
@@ -125,34 +125,42 @@ fn capacity_number(capacity: CapacityOf) -> u32
     }
 }
 
-// The paper's number of an answer and both details.
-pub fn numbers(answer: Answer) -> ReplyNumbers
-    ensures { said_numbers result ≡ said answer }
+fn refusal_numbers(refusal: Refusal) -> ReplyNumbers
+    ensures { said_numbers result ≡ said_refusal refusal }
 {
-    match answer {
-        Answer::Granted(detail) => ReplyNumbers {
-            number: 0,
-            first: detail,
-            second: 0,
-        },
-        Answer::Record => refused(1),
-        Answer::Date => refused(17),
-        Answer::Field => refused(3),
-        Answer::SetupShut => refused(4),
-        Answer::Clock => refused(5),
-        Answer::Unknown => refused(6),
-        Answer::Taken => refused(7),
-        Answer::TooEarly => refused(16),
-        Answer::TooLate => refused(8),
-        Answer::Hours => refused(9),
-        Answer::Access => refused(10),
-        Answer::Owner => refused(11),
-        Answer::Cycle => refused(12),
-        Answer::Full => refused(13),
-        Answer::Short(hour, capacity) => ReplyNumbers {
+    match refusal {
+        Refusal::Record => no_details(1),
+        Refusal::Date => no_details(17),
+        Refusal::Field => no_details(3),
+        Refusal::SetupShut => no_details(4),
+        Refusal::Clock => no_details(5),
+        Refusal::Unknown => no_details(6),
+        Refusal::Taken => no_details(7),
+        Refusal::TooEarly => no_details(16),
+        Refusal::TooLate => no_details(8),
+        Refusal::Hours => no_details(9),
+        Refusal::Access => no_details(10),
+        Refusal::Owner => no_details(11),
+        Refusal::Cycle => no_details(12),
+        Refusal::Full => no_details(13),
+        Refusal::Short(hour, capacity) => ReplyNumbers {
             number: 15,
             first: hour.0 as u32,
             second: capacity_number(capacity),
         },
+    }
+}
+
+// The paper's number of an answer and both details. No `From`: two crates hand this contract on as it stands.
+pub fn numbers(answer: Answer) -> ReplyNumbers
+    ensures { said_numbers result ≡ said answer }
+{
+    match answer {
+        Ok(detail) => ReplyNumbers {
+            number: 0,
+            first: detail,
+            second: 0,
+        },
+        Err(refusal) => refusal_numbers(refusal),
     }
 }

@@ -1,5 +1,6 @@
 -- A bid that nothing refuses: what it may rely on, and that its stores leave the book of the rules.
 -- Assumes nothing.
+use Rattle.std.specs.Prelude.{Option, Ok}
 use Prim.Native.Nat.{ℕ, ◌≤◌}
 use mathlib.Core.Path.{◌≡◌, refl, sym, ap, ◌∙◌}
 use mathlib.Core.Bool.{true, false, not}
@@ -10,12 +11,10 @@ use Rattle.rules.specs.Basics.{has, any_above}
 use Rattle.rules.specs.Sessions.{session_there, first_hour, hours_in, first_hour_there}
 use Rattle.rules.specs.Book.{Book, Right, model_of, profile_limit}
 use Rattle.rules.specs.Calls.{Bid}
-use Rattle.rules.specs.Said.{said}
 use Rattle.rules.specs.Bids.{is_short, shortage, with_bid, with_right, right_number}
 use Rattle.rules.specs.Refusals.{order, refuses, unknown, hours_lacking, wrong_hours, shortage_of, number}
 use Rattle.rules.specs.Effects.{is_timed, clock_after, directions_after, profiles_after, parties_after, offered_after, granted_after, rights_after, pairs_after, matched_after, effect}
 use Rattle.rules.specs.Details.{detail}
-use Rattle.rules.specs.declared.Answer.TheVariants.{Granted}
 use Rattle.rules.proofs.Bools.{or_left, or-true}
 use Rattle.rules.proofs.Decisions.{is_granted, fails}
 use Rattle.cells.specs.Layout.{PROFILES}
@@ -33,7 +32,6 @@ use Rattle.answers.proofs.Laws.{granted}
 use Rattle.rights.proofs.Rights.{enters_still}
 use Rattle.bids.proofs.Tests.{session_hours}
 use Rattle.bids.proofs.Verdicts.{KnownBid, known_bid}
-use Rattle.rights.specs.declared.Entry.{Entry}
 use Rattle.rights.specs.Work.{Enters, Booked}
 use Rattle.bids.specs.Work.{Placed}
 
@@ -82,7 +80,7 @@ module _ (b : List ℕ) (p d s n model first count : ℕ) (mw : List ℕ) (k : R
   rights_same c b1 e = ap (λ (x : Book). x.rights) (ap book_of e ∙ granted_book c)
 
   pub entry_same : Cells b → (b1 : List ℕ) → b1 ≡ granted_hours (counted b PROFILES profile_limit) d first count mw b
-      → {x : Entry} → Enters b (direction_at b d).model p d s x → Enters b1 model p d s x
+      → {x : Option ℕ} → Enters b (direction_at b d).model p d s x → Enters b1 model p d s x
   entry_same c b1 e q = enters_still (rights_same c b1 e) (rw pm q)
 
   -- all stores together
@@ -103,6 +101,6 @@ module _ (b : List ℕ) (p d s n model first count : ℕ) (mw : List ℕ) (k : R
       }
 
 pub bid_answers : (b b' : List ℕ) (t p d s : ℕ) (mw : List ℕ) (n : ℕ) → number (book_of b) (Bid t p d s mw) ≡ 0 → Placed b t p d s mw n b'
-    → Answers b (Bid t p d s mw) (Granted n) b'
+    → Answers b (Bid t p d s mw) (Ok n) b'
 bid_answers b b' t p d s mw n g w =
-    granted b b' (Bid t p d s mw) (Granted n) g (ap (λ (x : ℕ). said (Granted x)) w.number_is) w.book_is
+    granted b b' (Bid t p d s mw) n g w.number_is w.book_is

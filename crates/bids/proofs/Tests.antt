@@ -1,5 +1,6 @@
 -- What the tests of a bid find in cells, as the rules find it in the book.
 -- Assumes nothing.
+use Rattle.std.specs.Prelude.{Option}
 use Prim.Native.Nat.{ℕ, ◌+◌, ◌-◌, ◌≤◌, ◌<◌}
 use mathlib.Core.Path.{◌≡◌, ap, ◌∙◌}
 use mathlib.Core.Bool.{Bool, true, false, cond}
@@ -14,7 +15,8 @@ use Rattle.rules.specs.Book.{direction_limit}
 use Rattle.cells.specs.View.{day_hours_in, book_of}
 use Rattle.cells.proofs.Views.{hours_few, hours_within}
 use Rattle.capacity.specs.Search.{Hours, shortage_in, found}
-use Rattle.capacity.specs.declared.Search.{Search}
+use Rattle.rules.specs.declared.Hour.{Hour}
+use Rattle.rules.specs.declared.CapacityOf.{CapacityOf}
 use Rattle.capacity.proofs.View.{shortage_view}
 use Rattle.bids.specs.Work.{SessionKnown, Searched}
 
@@ -43,7 +45,7 @@ session_hours n model d s first count w row t f c =
 
 -- ---- the search for a shortage
 
-pub searched : (b : List ℕ) (n model d s first count : ℕ) (mw : List ℕ) (r : Search) → n ≡ day_hours_in b → length mw ≡ 5 → SessionKnown b model d s mw
+pub searched : (b : List ℕ) (n model d s first count : ℕ) (mw : List ℕ) (r : Option (Hour × CapacityOf)) → n ≡ day_hours_in b → length mw ≡ 5 → SessionKnown b model d s mw
     → first ≡ first_hour_there n model s → count ≡ hours_in n model s → r ≡ shortage_in b d first count mw → Searched b model d s mw r
 unfolding book_of first_hour_there
 searched b n model d s first count mw r p size k f c e =

@@ -1,5 +1,6 @@
 -- From the tests of a bid to the conditions of the rules.
 -- Assumes nothing.
+use Rattle.std.specs.Prelude.{Option, Some, None}
 use Prim.Native.Nat.{ℕ, ◌+◌, ◌*◌, ◌<◌}
 use mathlib.Core.Path.{◌≡◌, refl, sym, ap, ◌∙◌}
 use mathlib.Core.Bool.{true, false, ◌||◌, not}
@@ -12,28 +13,24 @@ use Rattle.rules.specs.Basics.{bit, any_above}
 use Rattle.rules.specs.Sessions.{session_there, hours_in}
 use Rattle.rules.specs.Book.{Book, model_of, direction_limit, party_limit}
 use Rattle.rules.specs.Calls.{Bid}
-use Rattle.rules.specs.Said.{said}
+use Rattle.rules.specs.Said.{said_refusal}
 use Rattle.rules.specs.Bids.{Shortage, is_short}
 use Rattle.rules.specs.Details.{short_hour_of, short_capacity_of, refusal}
 use Rattle.rules.specs.Refusals.{order, first_of, setup_shut, taken, not_owner, cycle, party_unknown, direction_unknown, session_unknown, refuses, no_access, shortage_of}
 use Rattle.rules.specs.declared.Hour.{Hour}
 use Rattle.rules.specs.declared.CapacityOf.{CapacityOf}
 use Rattle.rules.specs.declared.CapacityOf.TheVariants.{Direction, Profile}
-use Rattle.rules.specs.declared.Answer.TheVariants.{Short}
+use Rattle.rules.specs.declared.Refusal.TheVariants.{Short}
 use Rattle.rules.proofs.Bools.{or_left, or_right}
 use Rattle.cells.specs.Layout.{DIRECTIONS, PARTIES}
 use Rattle.cells.specs.View.{cell, counted, direction_at, book_of}
 use Rattle.cells.proofs.Views.{party_count, known_direction, access_at, direction_at_lem, model_at}
 use Rattle.capacity.specs.Search.{found}
-use Rattle.capacity.specs.declared.Search.{Search}
-use Rattle.capacity.specs.declared.Search.TheVariants.{Short as ShortIn, Enough}
 use Rattle.rules.proofs.Above.{zeros_from}
+use Rattle.answers.specs.Promises.{Refused}
 use Rattle.answers.proofs.Laws.{Left, pass, refuse, none_left}
-use Rattle.rights.specs.declared.Entry.{Entry}
-use Rattle.bids.specs.declared.BidVerdict.{BidVerdict}
-use Rattle.bids.specs.declared.BidVerdict.TheVariants.{Clear, No}
 use Rattle.rights.specs.Work.{Enters}
-use Rattle.bids.specs.Work.{JudgedBid, SessionKnown, Searched}
+use Rattle.bids.specs.Work.{Cleared, SessionKnown, Searched}
 
 -- the numbers that can apply to a bid
 pub bid_left : (b : Book) (t p d s : ℕ) (mw : List ℕ) → Left b (Bid t p d s mw) (3 ∷ 5 ∷ 6 ∷ 16 ∷ 8 ∷ 9 ∷ 10 ∷ 13 ∷ 15 ∷ [])
@@ -84,24 +81,24 @@ session_known b p d s model mw k m e =
 
 -- ---- the shortage
 
-abbrev pub verdict_of : Entry → Search → BidVerdict
-verdict_of e (ShortIn h l) = No (Short h l)
-verdict_of e Enough = Clear e
-
-pub short_said : (h : Hour) (l : CapacityOf) (s : Shortage) → found (ShortIn h l) ≡ s
-    → (is_short s ≡ true) × (said (Short h l) ≡ record { number = 15; first = short_hour_of s; second = short_capacity_of s })
+short_said : (h : Hour) (l : CapacityOf) (s : Shortage) → found (Some (h, l)) ≡ s
+    → (is_short s ≡ true) × (said_refusal (Short h l) ≡ record { number = 15; first = short_hour_of s; second = short_capacity_of s })
 short_said h Direction s e = rw (← e) (refl, refl)
 short_said h (Profile p) s e = rw (← e) (refl, rw (one-add p))
 
 -- the search found what condition 15 asks for
-pub shortage_is : (b : List ℕ) (t p d s model : ℕ) (mw : List ℕ) (r : Search) → KnownBid b p d s → model ≡ (direction_at b d).model → Searched b model d s mw r
+shortage_is : (b : List ℕ) (t p d s model : ℕ) (mw : List ℕ) (r : Option (Hour × CapacityOf)) → KnownBid b p d s → model ≡ (direction_at b d).model → Searched b model d s mw r
     → found r ≡ shortage_of (book_of b) (Bid t p d s mw)
 unfolding shortage_of
 shortage_is b t p d s model mw r k m f = f.found_is ∙ rw (m, ← k.model_is)
 
--- the verdict of a bid with nothing but 15 left to test
-pub judged : (b : List ℕ) (t p d s : ℕ) (mw : List ℕ) (e : Entry) (r : Search) → Left (book_of b) (Bid t p d s mw) (15 ∷ []) → Enters b (direction_at b d).model p d s e
-    → found r ≡ shortage_of (book_of b) (Bid t p d s mw) → JudgedBid b t p d s mw (verdict_of e r)
-unfolding refuses refusal
-judged b t p d s mw e (ShortIn h l) left k q = let f = short_said h l _ q in refuse (Short h l) left f.0 refl f.1
-judged b t p d s mw e Enough left k q = record { clear = none_left (pass left (ap is_short (sym q))); enters = k }
+-- a bid with nothing but 15 left to test
+module _ (b : List ℕ) (t p d s model : ℕ) (mw : List ℕ) {r : Option (Hour × CapacityOf)} (left : Left (book_of b) (Bid t p d s mw) (15 ∷ []))
+    (k : KnownBid b p d s) (m : model ≡ (direction_at b d).model) (f : Searched b model d s mw r) where
+  pub is_short_bid : (h : Hour) (l : CapacityOf) → r ≡ Some (h, l) → Refused (book_of b) (Bid t p d s mw) (Short h l)
+  unfolding refuses refusal
+  is_short_bid h l e = let q = short_said h l _ (rw e at (shortage_is b t p d s model mw r k m f)) in refuse (Short h l) left q.0 refl q.1
+
+  pub is_clear_bid : {e : Option ℕ} → Enters b (direction_at b d).model p d s e → r ≡ None → Cleared b t p d s mw e
+  unfolding refuses
+  is_clear_bid w e = record { clear = none_left (pass left (ap is_short (sym (rw e at (shortage_is b t p d s model mw r k m f))))); enters = w }

@@ -1,6 +1,9 @@
 -- What the private workers of a bid find and leave.
 -- Assumes nothing.
-use Rattle.std.specs.Prelude.{ℕ, ◌≤◌, ◌<◌, ◌≡◌, true, List, get_or}
+use Rattle.std.specs.Prelude.{ℕ, ◌≤◌, ◌<◌, ◌≡◌, true, List, get_or, Option, Result, Ok, Err}
+use Rattle.rules.specs.declared.Refusal.{Refusal}
+use Rattle.rules.specs.declared.Hour.{Hour}
+use Rattle.rules.specs.declared.CapacityOf.{CapacityOf}
 use Rattle.rules.specs.Sessions.{session_there, first_hour, hours_in}
 use Rattle.rules.specs.Book.{direction_limit}
 use Rattle.rules.specs.Bids.{shortage}
@@ -10,25 +13,20 @@ use Rattle.rules.specs.Effects.{effect}
 use Rattle.rules.specs.Details.{detail}
 use Rattle.cells.specs.View.{direction_at, book_of}
 use Rattle.capacity.specs.Search.{found}
-use Rattle.capacity.specs.declared.Search.{Search}
-use Rattle.answers.specs.declared.Verdict.TheVariants.{No as Refused}
-use Rattle.answers.specs.Promises.{Judged}
-use Rattle.rights.specs.declared.Entry.{Entry}
+use Rattle.answers.specs.Promises.{Refused}
 use Rattle.rights.specs.Work.{Enters}
-use Rattle.bids.specs.declared.BidVerdict.{BidVerdict}
-use Rattle.bids.specs.declared.BidVerdict.TheVariants.{Clear, No}
 
 -- ---- the verdict
 
 -- nothing is against the bid, and this is its entry
-pub record Cleared (b : List ℕ) (time p d s : ℕ) (mw : List ℕ) (e : Entry) : Type 0 where
+pub record Cleared (b : List ℕ) (time p d s : ℕ) (mw : List ℕ) (e : Option ℕ) : Type 0 where
   pub clear : number (book_of b) (Bid time p d s mw) ≡ 0
   pub enters : Enters b (direction_at b d).model p d s e
 
 -- what the tests of a bid find is the number of the rules
-abbrev pub JudgedBid : List ℕ → ℕ → ℕ → ℕ → ℕ → List ℕ → BidVerdict → Type 0
-JudgedBid b time p d s mw (Clear e) = Cleared b time p d s mw e
-JudgedBid b time p d s mw (No a) = Judged (book_of b) (Bid time p d s mw) (Refused a)
+abbrev pub JudgedBid : List ℕ → ℕ → ℕ → ℕ → ℕ → List ℕ → Result (Option ℕ) Refusal → Type 0
+JudgedBid b time p d s mw (Ok e) = Cleared b time p d s mw e
+JudgedBid b time p d s mw (Err r) = Refused (book_of b) (Bid time p d s mw) r
 
 -- ---- the search for a shortage
 
@@ -39,7 +37,7 @@ pub record SessionKnown (b : List ℕ) (model d s : ℕ) (mw : List ℕ) : Type 
   pub lacking : (k : ℕ) → hours_in (book_of b).day.hours model s ≤ k → get_or mw k 0 ≡ 0
 
 -- it finds what the rules' search finds
-pub record Searched (b : List ℕ) (model d s : ℕ) (mw : List ℕ) (r : Search) : Type 0 where
+pub record Searched (b : List ℕ) (model d s : ℕ) (mw : List ℕ) (r : Option (Hour × CapacityOf)) : Type 0 where
   pub found_is : found r ≡ shortage (book_of b) d (first_hour (book_of b).day.hours model s) mw
 
 -- ---- the granted bid

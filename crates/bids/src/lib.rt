@@ -1,30 +1,22 @@
 // Bids. A bid is checked whole before anything is stored.
 #![tactic(auto)]
 
-ghost use Rattle.std.specs.Prelude.{◌≡◌, ◌||◌, not, ◌+◌, ◌*◌, ◌<◌, ltb, drop};
+ghost use Rattle.std.specs.Prelude.{◌≡◌, ◌||◌, not, true, ◌+◌, ◌*◌, ◌<◌, ltb, drop};
 ghost use Rattle.rules.specs.Basics.{bit, any_above};
-ghost use Rattle.rules.specs.Sessions.{hours_in};
+ghost use Rattle.rules.specs.Sessions.{session_there, hours_in, first_hour_there};
 ghost use Rattle.rules.specs.Windows.{latest, bid_timing};
 ghost use Rattle.rules.specs.Book.{direction_limit, party_limit};
 ghost use Rattle.rules.specs.Calls.{Bid};
 ghost use Rattle.rules.specs.Refusals.{party_unknown, direction_unknown, session_unknown};
 ghost use Rattle.cells.specs.Layout.{PARTIES};
-ghost use Rattle.cells.specs.View.{cell, book_of, direction_at};
+ghost use Rattle.cells.specs.View.{cell, book_of, day_hours_in, direction_at};
 ghost use Rattle.answers.specs.Promises.{Answers};
 ghost use Rattle.bids.specs.Work.{Cleared, JudgedBid, SessionKnown, Searched, Placed};
 
-use answers::Verdict;
-use capacity::Search;
+use capacity::SessionHours;
 use cells::Book;
-use rights::Entry;
-use rules::{Answer, Session, Timing};
-
-// What the tests of a bid find: nothing against it, with its entry, or the refusal.
-#[derive(Clone, Copy)]
-enum BidVerdict {
-    Clear(Entry),
-    No(Answer),
-}
+use rules::{Answer, CapacityOf, Hour, Refusal, Session, Timing};
+use tables::RightKey;
 
 // ---- tests
 
@@ -44,26 +36,23 @@ fn bid_unknown(book: &Book, party: u8, direction: u8, session: Session) -> bool
     if answers::direction_unknown(book, direction) {
         return true;
     }
-    let hours = cells::hours(book);
-    let model = tables::model_of(book, direction);
-    !day::session_there(hours, model, session)
+    let model = tables::direction_at(book, direction).model;
+    !cells::day(book).session(model, session).is_there()
 }
 
 // Where the time stands to the session's bids.
+#[tactic(auto, unfolding(cells::specs::View::book_of))]
 fn timing(book: &Book, model: u32, session: Session, time: u32) -> Timing
     ensures { result ≡ bid_timing (book_of book.now).day.hours (book_of book.now).day.weekday model session.0 time }
 {
-    let hours = cells::hours(book);
-    let weekday = cells::weekday(book);
-    windows::bid_timing(hours, weekday, model, session, time)
+    windows::bid_timing(cells::day(book).session(model, session), time)
 }
 
 // MW for an hour that the session lacks, or none at all.
 fn wrong_hours(book: &Book, model: u32, session: Session, mw: [u16; 5]) -> bool
     ensures { result ≡ (any_above 0 (drop (hours_in (book_of book.now).day.hours model session.0) mw) || not (any_above 0 mw)) }
 {
-    let hours = cells::hours(book);
-    let count = day::hours_in(hours, model, session);
+    let count = cells::day(book).session(model, session).hours();
     capacity::any_above(0, mw, count) || !capacity::any_above(0, mw, 0)
 }
 
@@ -71,28 +60,43 @@ fn no_access(book: &Book, party: u8, direction: u8) -> bool
     requires { (party < party_limit) × (direction < direction_limit) }
     ensures { result ≡ not (bit (cell book.now (PARTIES + 17 + party * 17)) (direction_at book.now direction).out || bit (cell book.now (PARTIES + 17 + party * 17)) (direction_at book.now direction).into) }
 {
-    let map = book[cells::PARTIES + 17 + party as usize * 17];
-    let out = tables::out_of(book, direction);
-    let into = tables::into_of(book, direction);
-    if answers::has_access(map, out) {
-        return false;
-    }
-    !answers::has_access(map, into)
+    let map = book[cells::PARTIES.row(party as u32) + 16];
+    let there = tables::direction_at(book, direction);
+    !(rules::has_bit(map, there.out) || rules::has_bit(map, there.into))
 }
 
 // ---- the verdict
 
+// The hours of a session that is there.
+fn session_hours(book: &Book, model: u32, direction: u8, session: Session) -> SessionHours
+    requires { (direction < direction_limit) × (session_there (day_hours_in book.now) model session.0 ≡ true) }
+    ensures direction { result.direction ≡ direction }
+    ensures first { result.first.0 ≡ first_hour_there (day_hours_in book.now) model session.0 }
+    ensures count { result.count ≡ hours_in (day_hours_in book.now) model session.0 }
+{
+    let known = cells::day(book).session(model, session);
+    SessionHours {
+        direction,
+        first: known.first_hour().unwrap(),
+        count: known.hours(),
+    }
+}
+
 // The search for a shortage over the hours of the session.
-fn bid_shortage(book: &Book, model: u32, direction: u8, session: Session, mw: [u16; 5]) -> Search
+fn bid_shortage(
+    book: &Book,
+    model: u32,
+    direction: u8,
+    session: Session,
+    mw: [u16; 5],
+) -> Option<(Hour, CapacityOf)>
     requires { SessionKnown book.now model direction session.0 mw }
     ensures { Searched book.now model direction session.0 mw result }
 {
-    let hours = cells::hours(book);
-    let first = day::first_hour(hours, model, session);
-    let count = day::hours_in(hours, model, session);
-    capacity::shortage(book, direction, first, count, mw)
+    capacity::shortage(book, session_hours(book, model, direction, session), mw)
 }
 
+// Where nothing is against the bid, its entry.
 fn bid_verdict(
     book: &Book,
     time: u32,
@@ -100,36 +104,41 @@ fn bid_verdict(
     direction: u8,
     session: Session,
     mw: [u16; 5],
-) -> BidVerdict
+) -> Result<Option<u32>, Refusal>
     ensures { JudgedBid book.now time party direction session.0 mw result }
 {
     if bid_field(time, mw) {
-        return BidVerdict::No(Answer::Field);
+        return Err(Refusal::Field);
     }
     if answers::before_clock(book, time) {
-        return BidVerdict::No(Answer::Clock);
+        return Err(Refusal::Clock);
     }
     if bid_unknown(book, party, direction, session) {
-        return BidVerdict::No(Answer::Unknown);
+        return Err(Refusal::Unknown);
     }
-    let model = tables::model_of(book, direction);
-    if let Verdict::No(answer) = answers::window_verdict(timing(book, model, session, time)) {
-        return BidVerdict::No(answer);
-    }
+    let model = tables::direction_at(book, direction).model;
+    answers::window_verdict(timing(book, model, session, time))?;
     if wrong_hours(book, model, session, mw) {
-        return BidVerdict::No(Answer::Hours);
+        return Err(Refusal::Hours);
     }
     if no_access(book, party, direction) {
-        return BidVerdict::No(Answer::Access);
+        return Err(Refusal::Access);
     }
-    let entry = rights::entry_of(book, model, party, direction, session);
-    if let Entry::Full = entry {
-        return BidVerdict::No(Answer::Full);
+    let entry = rights::entry_of(book, model, key_of(party, direction, session))?;
+    let short = bid_shortage(book, model, direction, session, mw);
+    if let Some((hour, capacity)) = short {
+        return Err(Refusal::Short(hour, capacity));
     }
-    let search = bid_shortage(book, model, direction, session, mw);
-    match search {
-        Search::Short(hour, capacity) => BidVerdict::No(Answer::Short(hour, capacity)),
-        Search::Enough => BidVerdict::Clear(entry),
+    Ok(entry)
+}
+
+fn key_of(party: u8, direction: u8, session: Session) -> RightKey
+    ensures { result ≡ record { holder = party; direction = direction; session = session } }
+{
+    RightKey {
+        holder: party,
+        direction,
+        session,
     }
 }
 
@@ -143,18 +152,16 @@ fn place_bid(
     direction: u8,
     session: Session,
     mw: [u16; 5],
-    entry: Entry,
+    entry: Option<u32>,
 ) -> u32
     requires { Cleared book.old time party direction session.0 mw entry }
     ensures { Placed book.old time party direction session.0 mw result book.new }
 {
     cells::cells_in(book);
-    let hours = cells::hours(book);
-    let model = tables::model_of(book, direction);
-    let first = day::first_hour(hours, model, session);
-    let count = day::hours_in(hours, model, session);
-    capacity::grant_hours(book, direction, first, count, mw);
-    let number = rights::book_right(book, entry, model, party, direction, session, mw);
+    let model = tables::direction_at(book, direction).model;
+    let hours = session_hours(book, model, direction, session);
+    capacity::grant_hours(book, hours, mw);
+    let number = rights::book_right(book, entry, model, key_of(party, direction, session), mw);
     stores::set_clock(book, time);
     number
 }
@@ -169,11 +176,6 @@ pub fn bid(
 ) -> Answer
     ensures { Answers book.old (Bid time party direction session.0 mw) result book.new }
 {
-    let verdict = bid_verdict(book, time, party, direction, session, mw);
-    match verdict {
-        BidVerdict::No(answer) => answer,
-        BidVerdict::Clear(entry) => {
-            Answer::Granted(place_bid(book, time, party, direction, session, mw, entry))
-        }
-    }
+    let entry = bid_verdict(book, time, party, direction, session, mw)?;
+    Ok(place_bid(book, time, party, direction, session, mw, entry))
 }

@@ -68,15 +68,9 @@ october_at (suc n) y (suc k) l =
     let year : y + suc k ≡ y + 1 + k = omega arith in
     rw (place, year) (october_at n (y + 1) k (omega arith))
 
-pub record YearOf (table : List ℕ) (y : ℕ) : Type 0 where
-  pub march : get_or table (2 * (y - 2000)) 0 ≡ last_sunday y 3
-  pub october : get_or table (2 * (y - 2000) + 1) 0 ≡ last_sunday y 10
-
-pub each_year : (table : List ℕ) → table ≡ last_sundays 400 2000 → (y : ℕ) → 2000 ≤ y → y ≤ 2399 → YearOf table y
+pub each_year : (table : List ℕ) → table ≡ last_sundays 400 2000 → (y : ℕ) → 2000 ≤ y → y ≤ 2399
+    → (get_or table (2 * (y - 2000)) 0 ≡ last_sunday y 3) × (get_or table (2 * (y - 2000) + 1) 0 ≡ last_sunday y 10)
 each_year table e y low high =
     let year : 2000 + (y - 2000) ≡ y = omega arith in
     let l : y - 2000 < 400 = omega arith in
-    record {
-      march = rw (e, march_at 400 2000 (y - 2000) l, year);
-      october = rw (e, october_at 400 2000 (y - 2000) l, year);
-    }
+    (rw (e, march_at 400 2000 (y - 2000) l, year), rw (e, october_at 400 2000 (y - 2000) l, year))

@@ -1,56 +1,83 @@
-// Dates of the years 2000 to 2399: whether one is there, its weekday, and how many hours it has. Each function answers for any numbers, in constant time.
+// Dates of the years 2000 to 2399: whether one is there, its weekday, and how many hours it has. Each answer takes constant time.
 #![tactic(auto)]
 
 mod sundays;
 
-ghost use Rattle.std.specs.Prelude.{◌-◌, ◌≤◌, ◌≡◌, cond, ◌&&◌, eqb};
-ghost use Rattle.rules.specs.Basics.{between};
-ghost use Rattle.rules.specs.Calendar.{leap, days_in, is_date, days_of_years, days_of_months, weekday_of, hours_of};
+ghost use Rattle.std.specs.Prelude.{◌-◌, ◌≤◌, ◌≡◌, if◌then◌else◌};
+ghost use Rattle.rules.specs.Calendar.{leap, days_in, is_date, days_of_years, days_of_months, weekday_of, last_sunday, hours_of};
 
-// ---- dates
+// A date by its numbers, whatever they are: not every date is there.
+#[derive(Clone, Copy, PartialEq, Eq)]
+pub struct Date {
+    pub year: u16,
+    pub month: u8,
+    pub day: u8,
+}
 
+impl Date {
+    #[tactic(auto, using(std::proofs::lemmas::Bool::Decides::nat_tests), unfolding(rules::specs::Calendar::is_date, rules::specs::Basics::between))]
+    pub fn is_there(self) -> bool
+        ensures { result ≡ is_date self.year self.month self.day }
+    {
+        (2000..=2399).contains(&self.year)
+            && (1..=12).contains(&self.month)
+            && (1..=days_in(self.year, self.month)).contains(&self.day)
+    }
+
+    // Monday 1 to Sunday 7, of a date that is there.
+    #[tactic(auto, using(crate::proofs::Dates::there), unfolding(rules::specs::Calendar::weekday_of, rules::specs::Calendar::days_since))]
+    pub fn weekday(self) -> Option<u8>
+        ensures { result ≡ (if is_date self.year self.month self.day then Some (weekday_of self.year self.month self.day) else None) }
+    {
+        if !self.is_there() {
+            return None;
+        }
+        let days = days_of_years(self.year)
+            + days_of_months(self.year, self.month)
+            + (self.day as u32 - 1);
+        Some((1 + (5 + days) % 7) as u8)
+    }
+
+    // 23, 24 or 25, of a date that is there, by the table.
+    #[tactic(auto, using(std::proofs::lemmas::Bool::Decides::nat_tests, crate::proofs::Dates::there), unfolding(rules::specs::Calendar::hours_of))]
+    pub fn hours(self) -> Option<u8>
+        ensures { result ≡ (if is_date self.year self.month self.day then Some (hours_of self.year self.month self.day) else None) }
+    {
+        if !self.is_there() {
+            return None;
+        }
+        let (march, october) = last_sundays(self.year);
+        match self.month {
+            3 if self.day == march => Some(23),
+            10 if self.day == october => Some(25),
+            _ => Some(24),
+        }
+    }
+}
+
+// ---- months and years
+
+#[tactic(auto, using(std::proofs::lemmas::Bool::Decides::nat_tests), unfolding(rules::specs::Calendar::leap))]
 fn is_leap(year: u16) -> bool
     ensures { result ≡ leap year }
 {
-    if year % 4 != 0 {
-        return false;
-    }
-    year % 100 != 0 || year % 400 == 0
+    year % 4 == 0 && (year % 100 != 0 || year % 400 == 0)
 }
 
+#[tactic(auto, using(std::proofs::lemmas::Bool::Decides::nat_tests), unfolding(rules::specs::Calendar::days_in))]
 fn days_in(year: u16, month: u8) -> u8
     ensures { result ≡ days_in year month }
 {
-    if month == 2 {
-        return if is_leap(year) { 29 } else { 28 };
-    }
     match month {
+        2 if is_leap(year) => 29,
+        2 => 28,
         4 | 6 | 9 | 11 => 30,
         _ => 31,
     }
 }
 
-fn is_between(low: u16, high: u16, x: u16) -> bool
-    ensures { result ≡ between low high x }
-{
-    low <= x && x <= high
-}
-
-pub fn is_date(year: u16, month: u8, day: u8) -> bool
-    ensures { result ≡ is_date year month day }
-{
-    if !is_between(2000, 2399, year) {
-        return false;
-    }
-    if !is_between(1, 12, month as u16) {
-        return false;
-    }
-    is_between(1, days_in(year, month) as u16, day as u16)
-}
-
-// ---- weekdays
-
 // The days from 1 January 2000 to the year's first: a leap year in every fourth, none in a full century, but one in 2000.
+#[tactic(auto, using(crate::proofs::Days::years_closed))]
 fn days_of_years(year: u16) -> u32
     requires { (2000 ≤ year) × (year ≤ 2399) }
     ensures { (result ≡ days_of_years (year - 2000)) × (result ≤ 146097) }
@@ -60,6 +87,7 @@ fn days_of_years(year: u16) -> u32
 }
 
 // The days from the year's first to the month's: those of a year whose February has 30, without the one or two that it lacks.
+#[tactic(auto, using(std::proofs::lemmas::Bool::Decides::nat_tests, crate::proofs::Days::months_closed))]
 fn days_of_months(year: u16, month: u8) -> u32
     requires { (1 ≤ month) × (month ≤ 12) }
     ensures { (result ≡ days_of_months year (month - 1)) × (result ≤ 335) }
@@ -74,48 +102,12 @@ fn days_of_months(year: u16, month: u8) -> u32
     days - 2
 }
 
-// Monday 1 to Sunday 7; 0 for a date that is not there.
-pub fn weekday(year: u16, month: u8, day: u8) -> u8
-    ensures { result ≡ cond (is_date year month day) (weekday_of year month day) 0 }
-{
-    if !is_date(year, month, day) {
-        return 0;
-    }
-    let days = days_of_years(year) + days_of_months(year, month) + (day as u32 - 1);
-    (1 + (5 + days) % 7) as u8
-}
-
-// ---- hours
-
-// By the last Sundays of March and October.
-fn hours_by(month: u8, day: u8, march: u8, october: u8) -> u8
-    ensures { result ≡ cond (eqb month 3 && eqb day march) 23 (cond (eqb month 10 && eqb day october) 25 24) }
-{
-    if month == 3 {
-        return if day == march { 23 } else { 24 };
-    }
-    if month == 10 {
-        return if day == october { 25 } else { 24 };
-    }
-    24
-}
-
-// Of any day in a year of the cycle, by the table.
-fn hours_on(year: u16, month: u8, day: u8) -> u8
+// The days of March and October on which the clock changes.
+fn last_sundays(year: u16) -> (u8, u8)
     requires { (2000 ≤ year) × (year ≤ 2399) }
-    ensures { result ≡ hours_of year month day }
+    ensures { (result.0 ≡ last_sunday year 3) × (result.1 ≡ last_sunday year 10) }
 {
     let table = sundays::sundays();
     let march = 2 * (year - 2000) as usize;
-    hours_by(month, day, table[march], table[march + 1])
-}
-
-// 23, 24 or 25; 0 for a date that is not there.
-pub fn hours(year: u16, month: u8, day: u8) -> u8
-    ensures { result ≡ cond (is_date year month day) (hours_of year month day) 0 }
-{
-    if !is_date(year, month, day) {
-        return 0;
-    }
-    hours_on(year, month, day)
+    (table[march], table[march + 1])
 }

@@ -5,121 +5,141 @@
 mod read_loads;
 
 use callrate_books::Tally;
-use callrate_choices::Bids;
+use callrate_choices::{Bids, Rights};
 use cells::Book;
 use std::io;
 use std::rt::Env;
 
+// What a load calls, over and over, and where it isn't always the same the rights that it finds.
 #[derive(Clone, Copy)]
-enum Load {
+enum Calls {
     Bids(Bids),
-    Nominate,
-    Confirmed,
+    Nominations(Rights),
+    Confirmed(Rights),
     Left,
     Right,
 }
 
+#[derive(Clone, Copy)]
+struct Load {
+    name: &'static str,
+    calls: Calls,
+    count: u32,
+}
+
+static LOADS: [Load; 9] = [
+    Load {
+        name: "bids",
+        calls: Calls::Bids(Bids::Mixed),
+        count: 100000,
+    },
+    Load {
+        name: "standing",
+        calls: Calls::Bids(Bids::Standing),
+        count: 130000,
+    },
+    Load {
+        name: "full",
+        calls: Calls::Bids(Bids::Full),
+        count: 400000,
+    },
+    Load {
+        name: "nominate-few",
+        calls: Calls::Nominations(Rights::Five),
+        count: 100000,
+    },
+    Load {
+        name: "nominate-many",
+        calls: Calls::Nominations(Rights::Full),
+        count: 100000,
+    },
+    Load {
+        name: "confirmed-few",
+        calls: Calls::Confirmed(Rights::Five),
+        count: 100000,
+    },
+    Load {
+        name: "confirmed-many",
+        calls: Calls::Confirmed(Rights::Full),
+        count: 100000,
+    },
+    Load {
+        name: "left",
+        calls: Calls::Left,
+        count: 20000000,
+    },
+    Load {
+        name: "right",
+        calls: Calls::Right,
+        count: 20000000,
+    },
+];
+
+// Mixed bids begin with no right.
+fn rights_of(calls: Calls) -> Option<Rights> {
+    match calls {
+        Calls::Bids(Bids::Mixed) => None,
+        Calls::Bids(_) | Calls::Left | Calls::Right => Some(Rights::Full),
+        Calls::Nominations(rights) | Calls::Confirmed(rights) => Some(rights),
+    }
+}
+
 // ---- printing
-
-// A number, and what follows it.
-fn print(rt: &impl Print, n: u32, what: &[u8]) -> io::Result<()> {
-    rt.print(n)?;
-    rt.write_all(what)
-}
-
-fn print_sum(rt: &impl Print, name: &[u8], calls: u32, sum: u32) -> io::Result<()> {
-    rt.write_all(name)?;
-    rt.write_all(b": ")?;
-    print(rt, calls, b" calls, sum ")?;
-    print(rt, sum, b"\n")
-}
 
 // A line for each answer that occurred.
 fn print_answers(rt: &impl Print, tally: &Tally) -> io::Result<()> {
-    for number in 0..32usize {
-        let calls = tally[number];
-        if calls > 0 {
-            print(rt, calls, b" bids with answer ")?;
-            print(rt, number as u32, b"\n")?;
+    for (number, calls) in tally.answers.iter().enumerate() {
+        if *calls > 0 {
+            println!(rt; "{calls} bids with answer {number}")?;
         }
     }
     Ok(())
 }
 
-fn print_bids(rt: &impl Print, before: &Tally, tally: &Tally) -> io::Result<()> {
-    print(rt, before[0], b" calls of set-up and offers granted\n")?;
+fn print_bids(rt: &impl Print, set_up: &Tally, tally: &Tally) -> io::Result<()> {
+    println!(rt; "{} calls of set-up and offers granted", set_up.answers[0])?;
     print_answers(rt, tally)
 }
 
 // ---- loads
 
 // The sum of the answers. The tally is of bids only.
-fn make_calls(book: &mut Book, tally: &mut Tally, load: Load, rights: u32, calls: u32) -> u32 {
-    match load {
-        Load::Bids(bids) => callrate_books::make_bids(book, tally, bids, calls),
-        Load::Nominate => callrate_books::make_nominations(book, rights, calls),
-        Load::Confirmed => read_loads::confirmed(book, rights, calls),
-        Load::Left => read_loads::left(book, calls),
-        Load::Right => read_loads::right(book, calls),
+fn make_calls(book: &mut Book, tally: &mut Tally, load: Load) -> u32 {
+    match load.calls {
+        Calls::Bids(bids) => callrate_books::make_bids(book, tally, bids, load.count),
+        Calls::Nominations(rights) => callrate_books::make_nominations(book, rights, load.count),
+        Calls::Confirmed(rights) => read_loads::confirmed(book, rights, load.count),
+        Calls::Left => read_loads::left(book, load.count),
+        Calls::Right => read_loads::right(book, load.count),
     }
 }
 
-fn run_load(rt: &impl Print, name: &[u8], load: Load, rights: u32, calls: u32) -> io::Result<()> {
+fn run(rt: &impl Print, load: Load) -> io::Result<()> {
+    let rights = rights_of(load.calls);
     let mut book = [0u32; cells::CELLS];
-    let mut before = [0u32; 33];
-    let mut tally = [0u32; 33];
-    callrate_books::fill(&mut book, &mut before, rights);
-    let sum = make_calls(&mut book, &mut tally, load, rights, calls);
-    // Only the load `bids` begins with no right.
-    if rights == 0 {
-        print_bids(rt, &before, &tally)?;
+    let mut set_up = Tally::new();
+    let mut tally = Tally::new();
+    callrate_books::fill(&mut book, &mut set_up, rights);
+    let sum = make_calls(&mut book, &mut tally, load);
+    if rights.is_none() {
+        print_bids(rt, &set_up, &tally)?;
     }
-    print_sum(rt, name, calls, sum)
+    println!(rt; "{}: {} calls, sum {sum}", load.name, load.count)
 }
 
-// Runs a load where the word is its name, or where there is none.
-fn run(
-    rt: &impl Print,
-    word: &[u8],
-    name: &[u8],
-    load: Load,
-    rights: u32,
-    calls: u32,
-) -> io::Result<()> {
-    if word.len() == 0 || word == name {
-        return run_load(rt, name, load, rights, calls);
+// The loads of that name, and all of them where there is no word.
+fn run_named(rt: &impl Print, word: &[u8]) -> io::Result<()> {
+    for load in &LOADS {
+        if word.is_empty() || word == load.name.as_bytes() {
+            run(rt, *load)?;
+        }
     }
     Ok(())
-}
-
-// Each load with the rights that it finds, and how many calls it makes.
-fn run_changes(rt: &impl Print, word: &[u8]) -> io::Result<()> {
-    run(rt, word, b"bids", Load::Bids(Bids::Mixed), 0, 100000)?;
-    run(
-        rt,
-        word,
-        b"standing",
-        Load::Bids(Bids::Standing),
-        512,
-        130000,
-    )?;
-    run(rt, word, b"full", Load::Bids(Bids::Full), 512, 400000)?;
-    run(rt, word, b"nominate-few", Load::Nominate, 5, 100000)?;
-    run(rt, word, b"nominate-many", Load::Nominate, 512, 100000)
-}
-
-fn run_reads(rt: &impl Print, word: &[u8]) -> io::Result<()> {
-    run(rt, word, b"confirmed-few", Load::Confirmed, 5, 100000)?;
-    run(rt, word, b"confirmed-many", Load::Confirmed, 512, 100000)?;
-    run(rt, word, b"left", Load::Left, 512, 20000000)?;
-    run(rt, word, b"right", Load::Right, 512, 20000000)
 }
 
 fn main(rt: HostRuntime) -> io::Result<()> {
     let mut buffer = [0u8; 16];
     // A word that is missing or longer than the buffer counts as none.
     let n = rt.arg(1, &mut buffer).unwrap_or(0);
-    let word = &buffer[..n];
-    run_changes(&rt, word)?;
-    run_reads(&rt, word)
+    run_named(&rt, &buffer[..n])
 }

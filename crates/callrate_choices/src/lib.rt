@@ -1,6 +1,8 @@
 // The bids and pairs of the loads of `callrate`, each chosen by its number.
 #![tactic(auto)]
 
+use answers::Capacity;
+
 #[derive(Clone, Copy)]
 pub struct Bid {
     pub time: u32,
@@ -50,28 +52,22 @@ fn new_right_bid(mut bid: Bid, i: u32) -> Bid {
     bid
 }
 
-// A bid too early for the next session or, in the last window, too late for the first; one that names what is not there, one with no MW,
-// with a fifth hour, with more MW than are left.
-fn odd_bid(mut bid: Bid, kind: u32) -> Bid {
-    match kind {
+// Of fifty bids 38 are usual and four are of the other parties. The others are too early for the next session or, in the last window, too
+// late for the first; or name what is not there, or have no MW, a fifth hour, or more MW than are left.
+fn mixed_bid(i: u32) -> Bid {
+    let mut bid = usual_bid(i);
+    match i % 50 {
+        0..=37 => {}
+        38..=41 => return new_right_bid(bid, i),
         42 | 43 => bid.session = 1 + bid.session % 6,
         44 => bid.party = 64,
         45 => bid.direction = 24,
         46 => bid.session = 7,
-        47 => bid.mw = [0, 0, 0, 0, 0],
-        48 => bid.mw = [1, 1, 1, 1, 1],
+        47 => bid.mw = [0; 5],
+        48 => bid.mw = [1; 5],
         _ => bid.mw = [9999, 9999, 9999, 9999, 0],
     }
     bid
-}
-
-fn mixed_bid(i: u32) -> Bid {
-    let bid = usual_bid(i);
-    match i % 50 {
-        0..=37 => bid,
-        38..=41 => new_right_bid(bid, i),
-        kind => odd_bid(bid, kind),
-    }
 }
 
 // ---- bids in the last four-hour session
@@ -93,12 +89,36 @@ fn one_mw(hour: u32) -> [u16; 5] {
     mw
 }
 
-// Of 512 rights, right r is party r / 8's on direction r % 8. Fewer are all party 63's, right r on direction r.
-pub fn right_bid(rights: u32, r: u32) -> Bid {
-    if rights < 512 {
-        return late_bid(63, r, [500, 500, 500, 500, 0]);
+// The rights that a load finds.
+#[derive(Clone, Copy)]
+pub enum Rights {
+    Five,
+    Full,
+}
+
+impl Rights {
+    pub fn count(self) -> u32 {
+        match self {
+            Rights::Five => 5,
+            Rights::Full => 512,
+        }
     }
-    late_bid(r / 8, r % 8, [10, 10, 10, 10, 0])
+
+    // Of 512 rights, right r is party r / 8's on direction r % 8. Five are all party 63's, right r on direction r.
+    pub fn bid(self, r: u32) -> Bid {
+        match self {
+            Rights::Five => late_bid(63, r, [500, 500, 500, 500, 0]),
+            Rights::Full => late_bid(r / 8, r % 8, [10, 10, 10, 10, 0]),
+        }
+    }
+
+    // Five rights have 127 pairs each until there are 512, and 512 rights one each.
+    pub fn pair(self, p: u32) -> Pair {
+        match self {
+            Rights::Five => few_pair(p),
+            Rights::Full => many_pair(p),
+        }
+    }
 }
 
 // Standing bids are for the last 64 of 512 rights. Bids at a full table would need one more.
@@ -128,7 +148,7 @@ pub struct Nomination {
     pub mw: [u16; 5],
 }
 
-// With fewer than 512 rights each has 127 pairs, the most that there can be, since one of the two is its holder.
+// 127 pairs are the most that a right can have, since one of the two is its holder.
 fn few_pair(p: u32) -> Pair {
     let right = (p / 127 % 5) as u16;
     let k = (p % 127) as u8;
@@ -146,11 +166,7 @@ fn few_pair(p: u32) -> Pair {
     }
 }
 
-// With 512 rights each has one pair.
-pub fn pair_at(rights: u32, p: u32) -> Pair {
-    if rights < 512 {
-        return few_pair(p);
-    }
+fn many_pair(p: u32) -> Pair {
     let holder = (p / 8 % 64) as u8;
     Pair {
         right: (p % 512) as u16,
@@ -188,4 +204,17 @@ pub fn nomination_of(pair: Pair, i: u32) -> Nomination {
         side: 1,
         mw,
     }
+}
+
+// ---- what is offered
+
+pub const OFFERED_COUNT: u32 = 32;
+
+// The directions and then the profiles, over and over.
+pub fn offered_at(k: u32) -> Capacity {
+    let row = (k % OFFERED_COUNT) as u8;
+    if row < 24 {
+        return Capacity::Direction(row);
+    }
+    Capacity::Profile(row - 24)
 }

@@ -1,72 +1,97 @@
 // The search for a shortage, and the granting of a bid's hours, in place.
 #![tactic(auto)]
 
-ghost use Rattle.std.specs.Prelude.{◌≡◌, ◌+◌, ◌-◌, ◌<◌, ◌≤◌, drop, nat_lt};
-ghost use Rattle.rules.specs.Basics.{bit, any_above};
-ghost use Rattle.rules.specs.Book.{left_at, direction_limit, profile_limit};
+ghost use Rattle.std.specs.Prelude.{◌≡◌, ◌+◌, ◌<◌, ◌≤◌, drop, nat_lt};
+ghost use Rattle.rules.specs.Basics.{any_above};
+ghost use Rattle.rules.specs.Book.{left_at, profile_limit};
 ghost use Rattle.cells.specs.Layout.{CELLS, PROFILES};
-ghost use Rattle.cells.specs.View.{InHour, cell, book_of, counted};
+ghost use Rattle.cells.specs.View.{book_of, counted};
 ghost use Rattle.stores.specs.Bids.{added_cell, granted_profile, granted_hour, granted_hours, added_five};
-ghost use Rattle.capacity.specs.Search.{Hours, profile_short_in, shortage_in};
+ghost use Rattle.capacity.specs.Search.{Hours, InDirection, profile_short_in, shortage_in};
 
-use cells::Book;
+use cells::{Book, Place};
 use rules::{CapacityOf, Hour};
 
-// What the search finds.
+// The hours of a session of a direction.
 #[derive(Clone, Copy)]
-pub enum Search {
-    Short(Hour, CapacityOf),
-    Enough,
+pub struct SessionHours {
+    pub direction: u8,
+    pub first: Hour,
+    pub count: u8,
+    ghost inside: { Hours direction first.0 count },
+}
+
+// An hour of a direction.
+#[derive(Clone, Copy)]
+struct DirectionHour {
+    direction: u8,
+    hour: Hour,
+    ghost inside: { InDirection direction hour.0 },
 }
 
 fn profile_count(book: &Book) -> u8
-    ensures { (result ≡ counted book.now PROFILES profile_limit) × (result ≤ profile_limit) }
+    ensures count { result ≡ counted book.now PROFILES profile_limit }
+    ensures few { result ≤ profile_limit }
 {
-    cells::count_in(book, cells::PROFILES, cells::PROFILE_LIMIT) as u8
+    cells::PROFILES.count(book) as u8
 }
 
-// The map of a profile has the bit of a direction.
-fn holds(book: &Book, profile: u8, direction: u8) -> bool
-    requires { (profile < profile_limit) × (direction < direction_limit) }
-    ensures { result ≡ bit (cell book.now (PROFILES + 1 + profile)) direction }
+// ---- the search
+
+// Less is left at a place than is asked.
+fn is_short(book: &Book, at: Place, asked: u16) -> bool
+    ensures { result ≡ nat_lt (left_at (book_of book.now) at.row at.hour.0) asked }
 {
-    let map = book[cells::PROFILES + 1 + profile as usize];
-    (map >> direction) % 2 == 1
+    tables::left_at(book, at) < asked as u32
 }
 
-// A row has less left in an hour than is asked.
-fn is_short(book: &Book, row: u8, hour: Hour, asked: u16) -> bool
-    requires { InHour row hour.0 }
-    ensures { result ≡ nat_lt (left_at (book_of book.now) row hour.0) asked }
-{
-    tables::left_at(book, row, hour) < asked as u32
-}
+impl DirectionHour {
+    // The direction itself has less left.
+    fn is_short(self, book: &Book, asked: u16) -> bool
+        ensures { result ≡ nat_lt (left_at (book_of book.now) self.direction self.hour.0) asked }
+    {
+        let at = Place {
+            row: self.direction,
+            hour: self.hour,
+        };
+        is_short(book, at, asked)
+    }
 
-fn profile_short(book: &Book, profile: u8, direction: u8, hour: Hour, asked: u16) -> bool
-    requires { ((profile < profile_limit) × (direction < direction_limit)) × ((1 ≤ hour.0) × (hour.0 ≤ 25)) }
-    ensures { result ≡ profile_short_in book.now direction hour.0 asked profile }
-{
-    holds(book, profile, direction) && is_short(book, cells::PROFILE_ROW + profile, hour, asked)
+    // A profile holds the direction and has less left.
+    fn profile_short(self, book: &Book, profile: u8, asked: u16) -> bool
+        requires { profile < profile_limit }
+        ensures { result ≡ profile_short_in book.now self.direction self.hour.0 asked profile }
+    {
+        let map = book[cells::PROFILES.row(profile as u32)];
+        let at = Place {
+            row: cells::PROFILE_ROW + profile,
+            hour: self.hour,
+        };
+        rules::has_bit(map, self.direction as u32) && is_short(book, at, asked)
+    }
 }
 
 // The first hour that is short, and in it the direction before the profiles, the lowest profile first.
-pub fn shortage(book: &Book, direction: u8, first: Hour, count: u8, mw: [u16; 5]) -> Search
-    requires { Hours direction first.0 count }
-    ensures { result ≡ shortage_in book.now direction first.0 count mw }
+// The loops stay: the scope names labelled loops for this search.
+pub fn shortage(book: &Book, hours: SessionHours, mw: [u16; 5]) -> Option<(Hour, CapacityOf)>
+    ensures { result ≡ shortage_in book.now hours.direction hours.first.0 hours.count mw }
 {
-    let start = first.0;
     let profiles = profile_count(book);
-    let mut found = Search::Enough;
-    'hours: for k in 0..count {
-        let hour = Hour(start + k);
+    let mut found = None;
+    'hours: for k in 0..hours.count {
+        let hour = Hour(hours.first.0 + k);
+        let at = DirectionHour {
+            direction: hours.direction,
+            hour,
+        };
         let asked = mw[k as usize];
-        if is_short(book, direction, hour, asked) {
-            found = Search::Short(hour, CapacityOf::Direction);
+        if at.is_short(book, asked) {
+            found = Some((hour, CapacityOf::Direction));
             break 'hours;
         }
         'profiles: for p in 0..profiles {
-            if profile_short(book, p, direction, hour, asked) {
-                found = Search::Short(hour, CapacityOf::Profile(p));
+            if at.profile_short(book, p, asked) {
+                found = Some((hour, CapacityOf::Profile(p)));
                 break 'hours;
             }
         }
@@ -79,12 +104,7 @@ pub fn any_above(most: u16, mw: [u16; 5], from: u8) -> bool
     requires { from ≤ 5 }
     ensures { result ≡ any_above most (drop from mw) }
 {
-    for k in from..5 {
-        if mw[k as usize] > most {
-            return true;
-        }
-    }
-    false
+    mw[from as usize..].iter().any(|asked| *asked > most)
 }
 
 // ---- granting
@@ -94,45 +114,56 @@ fn add(book: &mut Book, at: usize, mw: u16)
     requires { at < CELLS }
     ensures { book.new ≡ added_cell at mw book.old }
 {
-    let was = book[at];
-    book[at] = std::num::wrapping_add_u32(was, mw as u32);
+    book[at] = book[at].wrapping_add(mw as u32);
 }
 
-fn grant_profile(book: &mut Book, profile: u8, direction: u8, hour: Hour, mw: u16)
-    requires { ((profile < profile_limit) × (direction < direction_limit)) × ((1 ≤ hour.0) × (hour.0 ≤ 25)) }
-    ensures { book.new ≡ granted_profile direction hour.0 mw profile book.old }
-{
-    if holds(book, profile, direction) {
-        let at = cells::place_of(cells::PROFILE_ROW + profile, hour);
-        add(book, cells::GRANTED_MW + at, mw);
+impl DirectionHour {
+    // MW of a profile, where it holds the direction.
+    fn grant_profile(self, book: &mut Book, profile: u8, mw: u16)
+        requires { profile < profile_limit }
+        ensures { book.new ≡ granted_profile self.direction self.hour.0 mw profile book.old }
+    {
+        let map = book[cells::PROFILES.row(profile as u32)];
+        if rules::has_bit(map, self.direction as u32) {
+            let at = Place {
+                row: cells::PROFILE_ROW + profile,
+                hour: self.hour,
+            };
+            add(book, cells::GRANTED_MW + at.position(), mw);
+        }
+    }
+
+    // MW of the direction, and of each of the first profiles that holds it.
+    fn grant(self, book: &mut Book, profiles: u8, mw: u16)
+        requires { profiles ≤ profile_limit }
+        ensures { book.new ≡ granted_hour profiles self.direction self.hour.0 mw book.old }
+    {
+        let at = Place {
+            row: self.direction,
+            hour: self.hour,
+        };
+        add(book, cells::GRANTED_MW + at.position(), mw);
+        for p in 0..profiles {
+            self.grant_profile(book, p, mw);
+        }
     }
 }
 
-// Of the direction, and of each of the first profiles that holds it.
-fn grant_hour(book: &mut Book, profiles: u8, direction: u8, hour: Hour, mw: u16)
-    requires { ((profiles ≤ profile_limit) × (direction < direction_limit)) × ((1 ≤ hour.0) × (hour.0 ≤ 25)) }
-    ensures { book.new ≡ granted_hour profiles direction hour.0 mw book.old }
+// The MW of each hour, on the direction and on each profile that holds it. The position in the session also gives the hour.
+pub fn grant_hours(book: &mut Book, hours: SessionHours, mw: [u16; 5])
+    ensures { book.new ≡ granted_hours (counted book.old PROFILES profile_limit) hours.direction hours.first.0 hours.count mw book.old }
 {
-    let at = cells::place_of(direction, hour);
-    add(book, cells::GRANTED_MW + at, mw);
-    for p in 0..profiles {
-        grant_profile(book, p, direction, hour, mw);
-    }
-}
-
-// The MW of each hour, on the direction and on each profile that holds it.
-pub fn grant_hours(book: &mut Book, direction: u8, first: Hour, count: u8, mw: [u16; 5])
-    requires { Hours direction first.0 count }
-    ensures { book.new ≡ granted_hours (counted book.old PROFILES profile_limit) direction first.0 count mw book.old }
-{
-    let start = first.0;
     let profiles = profile_count(book);
-    for k in 0..count {
-        grant_hour(book, profiles, direction, Hour(start + k), mw[k as usize]);
+    for k in 0..hours.count {
+        let at = DirectionHour {
+            direction: hours.direction,
+            hour: Hour(hours.first.0 + k),
+        };
+        at.grant(book, profiles, mw[k as usize]);
     }
 }
 
-// The five MW of a right with those of a bid, from cell `at` on.
+// The five MW of a right with those of a bid, from cell `at` on. By position, which reads the bid and places the cell.
 pub fn add_five(book: &mut Book, at: usize, mw: [u16; 5])
     requires { at + 5 ≤ CELLS }
     ensures { book.new ≡ added_five at mw book.old }

@@ -3,14 +3,15 @@
 
 mod codes;
 
+use cases_printing::Tally;
 use std::io;
 
 fn main(rt: HostRuntime) -> io::Result<()> {
-    let mut tally = [0u32; 2];
+    let mut tally = Tally::default();
     codes::run(&rt, &mut tally)?;
     cases_dates::run(&rt, &mut tally)?;
     cases_windows::run(&rt, &mut tally)?;
     cases_records::run(&rt, &mut tally)?;
     cases_full::run(&rt, &mut tally)?;
-    cases_printing::total(&rt, &tally)
+    println!(rt; "{tally}")
 }

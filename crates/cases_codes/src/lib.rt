@@ -1,15 +1,13 @@
 // Party codes for tries: a code for each number, made and not published.
 #![tactic(auto)]
 
-const CHARACTERS: [u8; 36] = *b"0123456789ABCDEFGHIJKLMNOPQRSTUVWXYZ";
-
 // A code with two digits of the number, and the check character that makes it a party code. For a few numbers there is none, since it would be "-".
 pub fn code_of(number: u8) -> [u8; 16] {
     let mut code = *b"10X-------------";
     code[13] = b'0' + number / 10 % 10;
     code[14] = b'0' + number % 10;
-    for k in 0..36 {
-        code[15] = CHARACTERS[k];
+    for character in *b"0123456789ABCDEFGHIJKLMNOPQRSTUVWXYZ" {
+        code[15] = character;
         if eic::is_party_code(code) {
             return code;
         }

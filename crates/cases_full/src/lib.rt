@@ -1,204 +1,384 @@
 // Full tables: as many entries as there is room for are granted, the next is refused, and what needs no new entry is still granted.
 #![tactic(auto)]
 
-use cases_printing::{Tally, case, counted, fill, same, text, word};
+use cases_printing::{Reply, Tally};
 use cells::Book;
 use rules::{Answer, Hour, Session};
-use std::io;
+use std::{fmt, io};
 
-// A row for each call, or for a call that is made many times.
-const ROWS: usize = 24;
+// ---- calls
 
-// What each row tries.
-const TRIED: [u8; 847] = *b"\
-    2015-06-01|\
-    42 directions|\
-    20 profiles|\
-    100 parties|\
-    direction 6 to 5, model 1|\
-    direction 0 to 1, model 1|\
-    profile of map 3|\
-    entry of party 10XCZ-CEPS-GRIDE, access 1|\
-    2015-06-01|\
-    direction 0 to 4, model 1|\
-    direction 4 to 1, model 4|\
-    entry of party 10XCZ-CEPS-GRIDE, access 17|\
-    entry of party 10XSK-SEPS-GRIDB, access 17|\
-    offer at 1000 for direction 0, hour 1: 9999|\
-    offer at 1000 for direction 1, hour 1: 9999|\
-    bid at 1100 by party 0 on direction 1, session 1: 1 0 0 0 0|\
-    600 bids for new rights|\
-    bid at 1100 by party 0 on direction 0, session 1: 1 0 0 0 0|\
-    bid at 1100 by party 1 on direction 1, session 1: 1 0 0 0 0|\
-    bid at 1100 by party 0 on direction 1, session 1: 1 0 0 0 0|\
-    right 511|\
-    nominations of 600 new pairs|\
-    nomination at 1100 by party 0 with party 1 on right 0, side 0: 1 0 0 0 0|\
-    nomination at 1100 by party 0 with party 0 on right 511, side 0: 2 0 0 0 0\
-";
+// A call with what it chooses; all else is the same in every case.
+#[derive(Clone, Copy)]
+enum Call {
+    OpenDay,
+    Direction { out: u8, into: u8, model: u8 },
+    Profile,
+    Party { code: [u8; 16], access: u8 },
+    Offer { direction: u8 },
+    Bid { party: u8, direction: u8 },
+    Nomination { other: u8, right: u16, mw: u16 },
+}
 
-// The numbers of each row:
-// - its call: 0 opens a day, 1 to 6 are a direction, a profile, a party, an offer, a bid and a nomination, 7 reads a right;
-// - three of the call: of a direction 7 times the out operator and the in operator, then the model; of a party its code and access; of
-//   an offer, second, the direction; of a bid, second and third, the party and the direction; of a nomination the right, the other party
-//   and the MW;
-// - how many times it is made, for the entries from 0;
-// - what is expected: the answer's number, and its detail or how many are granted.
-type Row = [u16; 7];
-
-fn row_at(row: usize) -> Row {
-    match row {
-        0 => [0, 0, 0, 0, 1, 0, 0],
-        1 => [1, 0, 1, 0, 49, 0, 24],
-        2 => [2, 0, 0, 0, 20, 0, 8],
-        3 => [3, 0, 1, 0, 100, 0, 64],
-        4 => [1, 47, 1, 0, 1, 13, 0],
-        5 => [1, 1, 1, 0, 1, 7, 0],
-        6 => [2, 0, 0, 0, 1, 13, 0],
-        7 => [3, 100, 1, 0, 1, 13, 0],
-        8 => [0, 0, 0, 0, 1, 0, 0],
-        9 => [1, 4, 1, 0, 1, 0, 0],
-        10 => [1, 29, 4, 0, 1, 0, 1],
-        11 => [3, 100, 17, 0, 1, 0, 0],
-        12 => [3, 101, 17, 0, 1, 0, 1],
-        13 => [4, 0, 0, 0, 1, 0, 9999],
-        14 => [4, 0, 1, 0, 1, 0, 9999],
-        15 => [5, 0, 0, 1, 1, 0, 0],
-        16 => [5, 0, 0, 0, 600, 0, 511],
-        17 => [5, 0, 0, 0, 1, 13, 0],
-        18 => [5, 0, 1, 1, 1, 13, 0],
-        19 => [5, 0, 0, 1, 1, 0, 0],
-        20 => [7, 511, 0, 0, 1, 0, 0],
-        21 => [6, 0, 0, 1, 600, 0, 512],
-        22 => [6, 0, 1, 1, 1, 13, 0],
-        _ => [6, 511, 0, 2, 1, 0, 1],
+impl fmt::Display for Call {
+    fn fmt<W: fmt::Write>(&self, f: &mut fmt::Formatter<W>) -> fmt::Result {
+        match *self {
+            Call::OpenDay => write!(f, "2015-06-01"),
+            Call::Direction { out, into, model } => {
+                write!(f, "direction {out} to {into}, model {model}")
+            }
+            Call::Profile => write!(f, "profile of map 3"),
+            Call::Party { code, access } => {
+                write!(f, "entry of party {}, access {access}", Code(code))
+            }
+            Call::Offer { direction } => {
+                write!(f, "offer at 1000 for direction {direction}, hour 1: 9999")
+            }
+            Call::Bid { party, direction } => write!(
+                f,
+                "bid at 1100 by party {party} on direction {direction}, session 1: 1 0 0 0 0"
+            ),
+            Call::Nomination { other, right, mw } => write!(
+                f,
+                "nomination at 1100 by party 0 with party {other} on right {right}, side 0: {mw} 0 0 0 0"
+            ),
+        }
     }
 }
 
-// ---- the calls
+#[derive(Clone, Copy)]
+struct Code([u8; 16]);
 
-// Codes below 100 are made, the others published.
-fn code(number: u8) -> [u8; 16] {
-    match number {
-        100 => *b"10XCZ-CEPS-GRIDE",
-        101 => *b"10XSK-SEPS-GRIDB",
-        _ => cases_codes::code_of(number),
+impl fmt::Display for Code {
+    fn fmt<W: fmt::Write>(&self, f: &mut fmt::Formatter<W>) -> fmt::Result {
+        for byte in self.0 {
+            write!(f, "{}", byte as char)?;
+        }
+        Ok(())
     }
 }
 
-fn offer(book: &mut Book, direction: u8) -> Answer {
-    daybook::offer_direction(book, 1000, direction, Hour(1), 9999)
-}
-
-fn bid(book: &mut Book, party: u8, direction: u8) -> Answer {
-    daybook::bid(book, 1100, party, direction, Session(1), [1, 0, 0, 0, 0])
-}
-
-fn nominate(book: &mut Book, right: u16, other: u8, mw: u8) -> Answer {
-    daybook::nominate(book, 1100, 0, other, right, 0, [mw as u16, 0, 0, 0, 0])
-}
-
-fn call(book: &mut Book, row: Row, entry: u16) -> Answer {
-    let number = (entry % 256) as u8;
-    let first = (row[2] % 256) as u8;
-    let second = (row[3] % 256) as u8;
-    match row[0] {
-        0 => daybook::open_day(book, 2015, 6, 1),
-        1 => daybook::add_direction(book, number / 7, number % 7, first),
-        2 => daybook::add_profile(book, 3),
-        3 => daybook::add_party(book, code(number), first),
-        4 => offer(book, first),
-        5 => bid(book, first, second),
-        _ => nominate(book, entry, first, second),
+fn answer_to(book: &mut Book, call: Call) -> Answer {
+    match call {
+        Call::OpenDay => daybook::open_day(book, 2015, 6, 1),
+        Call::Direction { out, into, model } => daybook::add_direction(book, out, into, model),
+        Call::Profile => daybook::add_profile(book, 3),
+        Call::Party { code, access } => daybook::add_party(book, code, access),
+        Call::Offer { direction } => daybook::offer_direction(book, 1000, direction, Hour(1), 9999),
+        Call::Bid { party, direction } => {
+            daybook::bid(book, 1100, party, direction, Session(1), [1, 0, 0, 0, 0])
+        }
+        Call::Nomination { other, right, mw } => {
+            daybook::nominate(book, 1100, 0, other, right, 0, [mw, 0, 0, 0, 0])
+        }
     }
 }
 
-fn count_granted(book: &mut Book, row: Row, times: u16) -> u32 {
-    let mut count = 0;
-    for entry in 0..times {
-        let granted = daybook::numbers(call(book, row, entry)).number == 0;
-        count = std::num::wrapping_add_u32(count, granted as u32);
+fn reply_to(book: &mut Book, call: Call) -> Reply {
+    Reply::from(daybook::numbers(answer_to(book, call)))
+}
+
+// Calls that each need a new entry.
+#[derive(Clone, Copy)]
+enum Series {
+    Directions,
+    Profiles,
+    Parties,
+    Rights,
+    Pairs,
+}
+
+// The call at a place, from 0, in a series. Of the first 49 directions seven lead from an operator to itself.
+fn call_at(series: Series, place: u16) -> Call {
+    let number = (place % 256) as u8;
+    match series {
+        Series::Directions => Call::Direction {
+            out: number / 7,
+            into: number % 7,
+            model: 1,
+        },
+        Series::Profiles => Call::Profile,
+        Series::Parties => Call::Party {
+            code: cases_codes::code_of(number),
+            access: 1,
+        },
+        Series::Rights => Call::Bid {
+            party: 0,
+            direction: 0,
+        },
+        Series::Pairs => Call::Nomination {
+            other: 0,
+            right: place,
+            mw: 1,
+        },
+    }
+}
+
+fn count_granted(book: &mut Book, series: Series, times: u16) -> u32 {
+    let mut count: u32 = 0;
+    for place in 0..times {
+        if reply_to(book, call_at(series, place)).number == 0 {
+            count = count.saturating_add(1);
+        }
     }
     count
 }
 
+// ---- rights
+
+// A right as it is read. A type of its own, since `Display` can't be given to one of another crate.
+#[derive(Clone, Copy, PartialEq)]
+struct Right {
+    holder: u8,
+    direction: u8,
+    session: u8,
+    mw: [u32; 5],
+}
+
+impl fmt::Display for Right {
+    fn fmt<W: fmt::Write>(&self, f: &mut fmt::Formatter<W>) -> fmt::Result {
+        write!(f, "{} {} {}", self.holder, self.direction, self.session)?;
+        for mw in self.mw {
+            write!(f, " {mw}")?;
+        }
+        Ok(())
+    }
+}
+
+const LAST_RIGHT: u16 = 511;
+
+fn last_right(book: &Book) -> Result<Right, Reply> {
+    match daybook::right_at(book, LAST_RIGHT) {
+        Ok(read) => {
+            let mw = read.mw;
+            Ok(Right {
+                holder: read.holder,
+                direction: read.direction,
+                session: read.session.0,
+                mw,
+            })
+        }
+        Err(refusal) => Err(Reply::from(daybook::numbers(Err(refusal)))),
+    }
+}
+
 // ---- cases
 
-fn count_case(rt: &impl Print, tally: &mut Tally, book: &mut Book, row: Row) -> io::Result<()> {
-    let numbers = [count_granted(book, row, row[4]), row[6] as u32];
-    case(rt, tally, b": # granted, expected #", &numbers)
+#[derive(Clone, Copy)]
+enum Case {
+    Once(Call, Reply),
+    Many {
+        tried: &'static str,
+        series: Series,
+        times: u16,
+        granted: u32,
+    },
+    LastRight(Right),
 }
 
-fn call_case(rt: &impl Print, tally: &mut Tally, book: &mut Book, row: Row) -> io::Result<()> {
-    let reply = daybook::numbers(call(book, row, row[1]));
-    let numbers = [
-        reply.number as u32,
-        reply.first,
-        reply.second,
-        row[5] as u32,
-        row[6] as u32,
-        0,
-    ];
-    case(rt, tally, b" = # # #, expected # # #", &numbers)
-}
+// Granted with the detail 0.
+const GRANTED: Reply = Reply {
+    number: 0,
+    first: 0,
+    second: 0,
+};
 
-fn right_numbers(book: &Book) -> [u32; 11] {
-    let read = daybook::right_at(book, 511);
-    let answer = read.answer;
-    let reply = daybook::numbers(answer);
-    let session = read.session;
-    let mw = read.mw;
-    [
-        reply.number as u32,
-        reply.first,
-        reply.second,
-        read.holder as u32,
-        read.direction as u32,
-        session.0 as u32,
-        mw[0],
-        mw[1],
-        mw[2],
-        mw[3],
-        mw[4],
-    ]
-}
+const GRANTED_1: Reply = Reply {
+    first: 1,
+    ..GRANTED
+};
 
-// The last right of a full table: 1 MW of party 0 on direction 0 in session 1.
-fn right_case(rt: &impl Print, tally: &mut Tally, book: &Book) -> io::Result<()> {
-    let numbers = right_numbers(book);
-    fill(rt, b" = # # # # # # # # # # #", &numbers)?;
-    text(rt, b", expected 0 0 0 0 0 1 1 0 0 0 0")?;
-    counted(
-        rt,
-        tally,
-        same(&numbers, &[0, 0, 0, 0, 0, 1, 1, 0, 0, 0, 0]),
-    )
-}
+const GRANTED_9999: Reply = Reply {
+    first: 9999,
+    ..GRANTED
+};
 
-fn row_case(rt: &impl Print, tally: &mut Tally, book: &mut Book, row: Row) -> io::Result<()> {
-    if 1 < row[4] {
-        count_case(rt, tally, book, row)
-    } else if row[0] == 7 {
-        right_case(rt, tally, book)
-    } else {
-        call_case(rt, tally, book, row)
+const TAKEN: Reply = Reply {
+    number: 7,
+    ..GRANTED
+};
+
+const FULL: Reply = Reply {
+    number: 13,
+    ..GRANTED
+};
+
+static CASES: [Case; 24] = [
+    Case::Once(Call::OpenDay, GRANTED),
+    Case::Many {
+        tried: "42 directions",
+        series: Series::Directions,
+        times: 49,
+        granted: 24,
+    },
+    Case::Many {
+        tried: "20 profiles",
+        series: Series::Profiles,
+        times: 20,
+        granted: 8,
+    },
+    Case::Many {
+        tried: "100 parties",
+        series: Series::Parties,
+        times: 100,
+        granted: 64,
+    },
+    Case::Once(
+        Call::Direction {
+            out: 6,
+            into: 5,
+            model: 1,
+        },
+        FULL,
+    ),
+    Case::Once(
+        Call::Direction {
+            out: 0,
+            into: 1,
+            model: 1,
+        },
+        TAKEN,
+    ),
+    Case::Once(Call::Profile, FULL),
+    Case::Once(
+        Call::Party {
+            code: *b"10XCZ-CEPS-GRIDE",
+            access: 1,
+        },
+        FULL,
+    ),
+    Case::Once(Call::OpenDay, GRANTED),
+    Case::Once(
+        Call::Direction {
+            out: 0,
+            into: 4,
+            model: 1,
+        },
+        GRANTED,
+    ),
+    Case::Once(
+        Call::Direction {
+            out: 4,
+            into: 1,
+            model: 4,
+        },
+        GRANTED_1,
+    ),
+    Case::Once(
+        Call::Party {
+            code: *b"10XCZ-CEPS-GRIDE",
+            access: 17,
+        },
+        GRANTED,
+    ),
+    Case::Once(
+        Call::Party {
+            code: *b"10XSK-SEPS-GRIDB",
+            access: 17,
+        },
+        GRANTED_1,
+    ),
+    Case::Once(Call::Offer { direction: 0 }, GRANTED_9999),
+    Case::Once(Call::Offer { direction: 1 }, GRANTED_9999),
+    Case::Once(
+        Call::Bid {
+            party: 0,
+            direction: 1,
+        },
+        GRANTED,
+    ),
+    Case::Many {
+        tried: "600 bids for new rights",
+        series: Series::Rights,
+        times: 600,
+        granted: 511,
+    },
+    Case::Once(
+        Call::Bid {
+            party: 0,
+            direction: 0,
+        },
+        FULL,
+    ),
+    Case::Once(
+        Call::Bid {
+            party: 1,
+            direction: 1,
+        },
+        FULL,
+    ),
+    Case::Once(
+        Call::Bid {
+            party: 0,
+            direction: 1,
+        },
+        GRANTED,
+    ),
+    Case::LastRight(Right {
+        holder: 0,
+        direction: 0,
+        session: 1,
+        mw: [1, 0, 0, 0, 0],
+    }),
+    Case::Many {
+        tried: "nominations of 600 new pairs",
+        series: Series::Pairs,
+        times: 600,
+        granted: 512,
+    },
+    Case::Once(
+        Call::Nomination {
+            other: 1,
+            right: 0,
+            mw: 1,
+        },
+        FULL,
+    ),
+    Case::Once(
+        Call::Nomination {
+            other: 0,
+            right: 511,
+            mw: 2,
+        },
+        GRANTED_1,
+    ),
+];
+
+fn right_case(rt: &impl Print, tally: &mut Tally, book: &Book, expected: Right) -> io::Result<()> {
+    let found = last_right(book);
+    print!(rt; "right {LAST_RIGHT} = ")?;
+    match found {
+        Ok(right) => print!(rt; "{GRANTED} {right}")?,
+        Err(reply) => print!(rt; "{reply}")?,
     }
+    print!(rt; ", expected {GRANTED} {expected}")?;
+    tally.count(rt, found == Ok(expected))
 }
 
-fn print_tried(rt: &impl Print, row: usize) -> io::Result<()> {
-    let tried = TRIED;
-    word(rt, &tried, row)
-}
-
-fn row_cases(rt: &impl Print, tally: &mut Tally, book: &mut Book) -> io::Result<()> {
-    for row in 0..ROWS {
-        print_tried(rt, row)?;
-        row_case(rt, tally, book, row_at(row))?;
+fn run_case(rt: &impl Print, tally: &mut Tally, book: &mut Book, case: Case) -> io::Result<()> {
+    match case {
+        Case::Once(call, expected) => {
+            print!(rt; "{call} = ")?;
+            tally.compare(rt, &reply_to(book, call), &expected)
+        }
+        Case::Many {
+            tried,
+            series,
+            times,
+            granted,
+        } => {
+            let found = count_granted(book, series, times);
+            print!(rt; "{tried}: {found} granted, expected {granted}")?;
+            tally.count(rt, found == granted)
+        }
+        Case::LastRight(expected) => right_case(rt, tally, book, expected),
     }
-    Ok(())
 }
 
 pub fn run(rt: &impl Print, tally: &mut Tally) -> io::Result<()> {
     let mut book = [0u32; cells::CELLS];
-    row_cases(rt, tally, &mut book)
+    for case in &CASES {
+        run_case(rt, tally, &mut book, *case)?;
+    }
+    Ok(())
 }

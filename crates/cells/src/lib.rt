@@ -1,11 +1,12 @@
 // The cells of a day book: one lent array with a table at each fixed place, the day's own cells, and the count of a table. Nothing is assumed of what the cells hold.
 #![tactic(auto)]
 
-ghost use Rattle.std.specs.Prelude.{◌≡◌, ◌<◌};
+ghost use Rattle.std.specs.Prelude.{◌≡◌, ◌+◌, ◌*◌, ◌<◌, ◌≤◌, leb};
 ghost use Rattle.rules.specs.Book.{flag};
 ghost use Rattle.cells.specs.Layout.{CELLS};
 ghost use Rattle.cells.specs.View.{InHour, Places, InRange, Cells, counted, day_hours_in, started_in, weekday_in, clock_in};
 
+use day::Day;
 use rules::{Hour, Session};
 
 // The date of the day: year, month and day of the month; numbers that are no date where it has none.
@@ -27,15 +28,6 @@ pub const CLOCK: usize = 5;
 // Not 0 after a granted timed call.
 pub const STARTED: usize = 6;
 
-// A count, and 24 rows of 3: out operator, in operator, model.
-pub const DIRECTIONS: usize = 7;
-
-// A count, and 8 maps.
-pub const PROFILES: usize = 80;
-
-// A count, and 64 rows of 17: the 16 bytes of the code, access map.
-pub const PARTIES: usize = 89;
-
 // The offers: 32 rows of 25 hours, rows 0 to 23 for the directions, 24 to 31 for the profiles.
 pub const OFFERED_MW: usize = 1178;
 
@@ -45,27 +37,54 @@ pub const GRANTED_MW: usize = 1978;
 // The matched sessions: 24 rows of 25 sessions, 1 where the session of the direction was matched.
 pub const MATCHED_SESSIONS: usize = 2778;
 
-// A count, and 512 rows of 8: holder, direction, session, five MW.
-pub const RIGHTS: usize = 3378;
-
-// A count, and 512 rows of 13: right, out party, in party, five MW of the out side, five of the in side.
-pub const PAIRS: usize = 7475;
-
 // How many cells a book has.
 pub const CELLS: usize = 14132;
 
 pub type Book = [u32; CELLS];
 
-// How many rows the tables hold at most.
-pub const DIRECTION_LIMIT: u32 = 24;
+// A table: the cell of its count, and behind it the rows, of so many cells each.
+#[derive(Clone, Copy)]
+pub struct Table {
+    pub at: usize,
+    pub width: usize,
+    pub limit: u32,
+    ghost inside: { at + 1 + limit * width ≤ CELLS },
+}
 
-pub const PROFILE_LIMIT: u32 = 8;
+// Rows of an out operator, an in operator and a model.
+pub const DIRECTIONS: Table = Table {
+    at: 7,
+    width: 3,
+    limit: 24,
+};
 
-pub const PARTY_LIMIT: u32 = 64;
+// Rows of a map of directions.
+pub const PROFILES: Table = Table {
+    at: 80,
+    width: 1,
+    limit: 8,
+};
 
-pub const RIGHT_LIMIT: u32 = 512;
+// Rows of the 16 bytes of a code, and an access map.
+pub const PARTIES: Table = Table {
+    at: 89,
+    width: 17,
+    limit: 64,
+};
 
-pub const PAIR_LIMIT: u32 = 512;
+// Rows of a holder, a direction, a session and five MW.
+pub const RIGHTS: Table = Table {
+    at: 3378,
+    width: 8,
+    limit: 512,
+};
+
+// Rows of a right, an out party, an in party, five MW of the out side and five of the in side.
+pub const PAIRS: Table = Table {
+    at: 7475,
+    width: 13,
+    limit: 512,
+};
 
 // How many flags the matched sessions have.
 pub const FLAGS: usize = 600;
@@ -73,11 +92,21 @@ pub const FLAGS: usize = 600;
 // The profiles' rows of MW follow those of the directions.
 pub const PROFILE_ROW: u8 = 24;
 
-// What the search for a row of a table finds: its number.
+// An hour of a row of the offers and of the granted MW, which both tables have.
 #[derive(Clone, Copy)]
-pub enum Found {
-    At(u32),
-    Nothing,
+pub struct Place {
+    pub row: u8,
+    pub hour: Hour,
+    ghost in_tables: { InHour row hour.0 },
+}
+
+impl Place {
+    // Where its MW stand among the offers, and among the granted MW.
+    pub fn position(self) -> usize
+        ensures { Places self.row self.hour.0 result }
+    {
+        self.row as usize * 25 + (self.hour.0 as usize - 1)
+    }
 }
 
 // Each cell is a number of 32 bits.
@@ -97,23 +126,31 @@ pub fn cells_in(book: &Book)
     in_range(book);
 }
 
+#[tactic(auto, unfolding(crate::specs::View::day_hours_in))]
 pub fn hours(book: &Book) -> u8
     ensures { result ≡ day_hours_in book.now }
 {
-    let n = book[HOURS];
-    if n == 23 {
-        return 23;
+    match book[HOURS] {
+        23 => 23,
+        25 => 25,
+        _ => 24,
     }
-    if n == 25 {
-        return 25;
-    }
-    24
 }
 
 pub fn weekday(book: &Book) -> u32
     ensures { result ≡ weekday_in book.now }
 {
     book[WEEKDAY]
+}
+
+pub fn day(book: &Book) -> Day
+    ensures hours { result.hours ≡ day_hours_in book.now }
+    ensures weekday { result.weekday ≡ weekday_in book.now }
+{
+    Day {
+        hours: hours(book),
+        weekday: weekday(book),
+    }
 }
 
 pub fn clock(book: &Book) -> u32
@@ -128,21 +165,29 @@ pub fn is_started(book: &Book) -> bool
     book[STARTED] != 0
 }
 
-// The count of a table: one past its limit is read as a full table.
-pub fn count_in(book: &Book, table: usize, limit: u32) -> u32
-    requires { table < CELLS }
-    ensures { result ≡ counted book.now table limit }
-{
-    let count = book[table];
-    if count < limit { count } else { limit }
-}
+impl Table {
+    // How many rows it has: a count past its limit is read as that of a full table.
+    pub fn count(self, book: &Book) -> u32
+        ensures { result ≡ counted book.now self.at self.limit }
+    {
+        book[self.at].min(self.limit)
+    }
 
-// Where the MW of a row in an hour stand among the offers, and among the granted MW.
-pub fn place_of(row: u8, hour: Hour) -> usize
-    requires { InHour row hour.0 }
-    ensures { Places row hour.0 result }
-{
-    row as usize * 25 + (hour.0 as usize - 1)
+    // It has no room for a row more.
+    pub fn is_full(self, book: &Book) -> bool
+        ensures { result ≡ leb self.limit (counted book.now self.at self.limit) }
+    {
+        self.limit <= self.count(book)
+    }
+
+    // The first cell of row number i.
+    pub fn row(self, i: u32) -> usize
+        requires { i < self.limit }
+        ensures begins { result ≡ self.at + 1 + i * self.width }
+        ensures inside { result + self.width ≤ CELLS }
+    {
+        self.at + 1 + i as usize * self.width
+    }
 }
 
 // Where the flag of a direction's session stands among the matched sessions.

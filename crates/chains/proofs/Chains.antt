@@ -1,21 +1,21 @@
 -- A chain of promises is the run of the rules, so demand 3 holds of it.
 -- Assumes nothing.
+use Rattle.std.specs.Prelude.{Result}
 use Prim.Native.Nat.{ℕ}
 use mathlib.Core.Path.{◌≡◌, refl, sym, ap, ◌∙◌}
 use mathlib.Core.List.{List, [], ◌∷◌, map}
 use Rattle.rules.specs.Book.{Book}
 use Rattle.rules.specs.Calls.{Call, Reply}
-use Rattle.rules.specs.Said.{said}
+use Rattle.rules.specs.Said.{Answer, said}
 use Rattle.rules.specs.Run.{Run, run}
 use Rattle.rules.specs.Opening.{opening}
 use Rattle.rules.specs.Reads.{ConfirmedReply, read_confirmed}
 use Rattle.rules.specs.History.{Key}
 use Rattle.rules.specs.Demand3.{confirmed_total}
-use Rattle.rules.specs.declared.Answer.{Answer}
+use Rattle.rules.specs.declared.Refusal.{Refusal}
 use Rattle.rules.proofs.Demand.{demand3}
 use Rattle.cells.specs.View.{book_of}
-use Rattle.answers.specs.declared.ConfirmedRead.{ConfirmedRead}
-use Rattle.answers.specs.Promises.{Opens, ReadsConfirmed}
+use Rattle.answers.specs.Promises.{Opens, ReadsConfirmed, said_confirmed}
 use Rattle.chains.specs.Chains.{Chain, done, next}
 use Rattle.chains.specs.Demand.{confirmed_sum, ProgramDemand3}
 
@@ -41,10 +41,10 @@ follows_opened : {y m d : ℕ} {r : Answer} {first last : List ℕ} {cs : List C
 follows_opened o k = rw (← o.book) (follows k)
 
 -- what the read of confirmed MW answers
-mw_read : {last : List ℕ} {r o i : ℕ} {x : ConfirmedRead} → ReadsConfirmed last r o i x → x.mw ≡ (read_confirmed (book_of last) r o i).mw
+mw_read : {last : List ℕ} {r o i : ℕ} {x : Result (List ℕ) Refusal} → ReadsConfirmed last r o i x → (said_confirmed x).mw ≡ (read_confirmed (book_of last) r o i).mw
 mw_read p = ap (λ (y : ConfirmedReply). y.mw) p.reply
 
-sum_read : (last : List ℕ) (k r : ℕ) (reads : Key → ConfirmedRead) → ((x : Key) → ReadsConfirmed last x.right x.out x.into (reads x))
+sum_read : (last : List ℕ) (k r : ℕ) (reads : Key → Result (List ℕ) Refusal) → ((x : Key) → ReadsConfirmed last x.right x.out x.into (reads x))
     → (ks : List Key) → confirmed_sum reads k r ks ≡ confirmed_total (book_of last) k r ks
 unfolding confirmed_sum confirmed_total
 sum_read last k r reads p [] = refl

@@ -2,7 +2,7 @@
 -- Assumes nothing.
 use Rattle.std.specs.Prelude.{ℕ, List, [], ◌∷◌}
 use Rattle.rules.specs.Calls.{Call}
-use Rattle.rules.specs.declared.Answer.{Answer}
+use Rattle.rules.specs.Said.{Answer}
 use Rattle.answers.specs.Promises.{Answers}
 
 -- the cells before, the calls with their answers, and the cells after; a step is what the public function of the call ensures

@@ -1,11 +1,8 @@
 -- What the private workers of the read of confirmed MW find.
 -- Assumes nothing.
 use Rattle.std.specs.Prelude.{ℕ, List, get_or}
-use Rattle.rules.specs.Basics.{no_mw}
 use Rattle.rules.specs.Nominations.{confirmed_of}
-use Rattle.rules.specs.declared.Answer.{Answer}
 use Rattle.cells.specs.View.{right_at}
-use Rattle.answers.specs.declared.ConfirmedRead.{ConfirmedRead}
 use Rattle.totals.specs.Gathered.{lower_in, total_in}
 
 -- the confirmed MW of pair number i in hour k, where its right is r and the sum over the right is `total`
@@ -15,7 +12,3 @@ hour_of b r i total k = confirmed_of (get_or (right_at b r).mw k 0) total (lower
 -- the confirmed MW of pair number i in hour k, where its right is r
 abbrev pub hour_in : List ℕ → ℕ → ℕ → ℕ → ℕ
 hour_in b r i k = hour_of b r i (total_in b r k) k
-
--- a refused read answers zeros
-abbrev pub refused_read : Answer → ConfirmedRead
-refused_read a = record { answer = a; mw = no_mw }

@@ -6,11 +6,11 @@ ghost use Rattle.rules.specs.Basics.{five};
 ghost use Rattle.rules.specs.Book.{pair_limit, right_limit};
 ghost use Rattle.rules.specs.Nominations.{confirmed_of};
 ghost use Rattle.answers.specs.Promises.{ReadsConfirmed};
-ghost use Rattle.confirmed.specs.Work.{hour_of, hour_in, refused_read};
+ghost use Rattle.confirmed.specs.Work.{hour_of, hour_in};
 
-use answers::ConfirmedRead;
-use cells::{Book, Found};
-use rules::Answer;
+use cells::Book;
+use pairs::PairKey;
+use rules::Refusal;
 
 // The confirmed MW of the lower side m, where the right has `held` and the sum of the lower sides is `total`.
 fn confirmed(held: u32, total: u64, m: u32) -> u32
@@ -28,7 +28,7 @@ fn confirmed_hour(book: &Book, right: u16, i: u32, total: u64, position: usize) 
     ensures { result ≡ hour_of book.now right i total position }
 {
     let lower = totals::lower_at(book, i, position);
-    let held = book[cells::RIGHTS + 4 + right as usize * 8 + position];
+    let held = book[cells::RIGHTS.row(right as u32) + 3 + position];
     confirmed(held, total, lower)
 }
 
@@ -47,34 +47,24 @@ fn confirmed_five(book: &Book, right: u16, i: u32) -> [u32; 5]
     ]
 }
 
-// A refused read.
-fn refused(answer: Answer) -> ConfirmedRead
-    ensures { result ≡ refused_read answer }
-{
-    ConfirmedRead {
-        answer: answer,
-        mw: [0; 5],
-    }
-}
-
-// The confirmed MW of a pair, by its right, out party and in party.
-pub fn confirmed_of(book: &Book, right: u16, out: u8, into: u8) -> ConfirmedRead
+// The confirmed MW of a pair.
+pub fn confirmed_of(book: &Book, right: u16, out: u8, into: u8) -> Result<[u32; 5], Refusal>
     ensures { ReadsConfirmed book.now right out into result }
 {
-    if cells::count_in(book, cells::RIGHTS, cells::RIGHT_LIMIT) <= right as u32 {
-        return refused(Answer::Unknown);
+    if cells::RIGHTS.count(book) <= right as u32 {
+        return Err(Refusal::Unknown);
     }
-    let Found::At(i) = pairs::standing_pair(book, right as u32, out as u32, into as u32) else {
-        return refused(Answer::Unknown);
+    let key = PairKey {
+        right: right as u32,
+        out: out as u32,
+        into: into as u32,
     };
-    let direction = tables::right_direction(book, right);
-    let session = tables::right_session(book, right);
-    if !tables::is_matched(book, direction, session) {
-        return refused(Answer::Cycle);
+    let Some(i) = pairs::standing_pair(book, key) else {
+        return Err(Refusal::Unknown);
+    };
+    let session = tables::right_key(book, right);
+    if !tables::is_matched(book, session.direction, session.session) {
+        return Err(Refusal::Cycle);
     }
-    let mw = confirmed_five(book, right, i);
-    ConfirmedRead {
-        answer: Answer::Granted(0),
-        mw: mw,
-    }
+    Ok(confirmed_five(book, right, i))
 }

@@ -1,82 +1,111 @@
-// The day's sessions and hours. No public function has a `requires`: each answers for any numbers, as the rules do.
+// The day's sessions and hours. No method has a `requires`: each answers for any numbers, as the rules do.
 #![tactic(auto)]
 
-ghost use Rattle.std.specs.Prelude.{◌≡◌, cond, ◌+◌, ◌-◌, ◌≤◌, eqb};
+ghost use Rattle.std.specs.Prelude.{◌≡◌, true, ◌↔◌, IfSome, IsSome, cond, ◌+◌, ◌-◌, ◌≤◌, eqb};
 ghost use Rattle.rules.specs.Sessions.{session_there, first_hour, hours_in, session_of, first_hour_there};
 
 use rules::{Hour, Session};
 
-// The number of the day's last session.
-fn last_session(hours: u8, model: u32) -> u8
-    ensures { result ≡ cond (eqb model 1) hours 6 }
-{
-    if model == 1 {
-        return hours;
-    }
-    6
+// A day's count of hours and its weekday, Monday 1 to Sunday 7. The weekday is a number: the cell that it comes from may hold any.
+#[derive(Clone, Copy)]
+pub struct Day {
+    pub hours: u8,
+    pub weekday: u32,
 }
 
-pub fn session_there(hours: u8, model: u32, session: Session) -> bool
-    ensures { result ≡ session_there hours model session.0 }
-{
-    let number = session.0;
-    let last = last_session(hours, model);
-    0 < number && number <= last
+// A session of a day by the model, 1 or 4, and its number. The model is a number: the cell that it comes from may hold any.
+#[derive(Clone, Copy)]
+pub struct DaySession {
+    pub day: Day,
+    pub model: u32,
+    pub session: Session,
 }
 
-// The first hour of any session's number, there or not: it may be past what an `Hour` holds.
-pub fn first_number(hours: u8, model: u32, session: Session) -> u32
-    ensures { (result ≡ first_hour hours model session.0) × (result ≤ 1248) }
-{
-    let number = session.0 as u32;
-    if model == 1 {
-        return number;
+#[tactic(auto, using(std::proofs::lemmas::Bool::Decides::nat_tests), unfolding(rules::specs::Sessions::session_of))]
+impl Day {
+    pub fn session(self, model: u32, session: Session) -> DaySession
+        ensures { result ≡ record { day = self; model = model; session = session } }
+    {
+        DaySession {
+            day: self,
+            model,
+            session,
+        }
     }
-    if number <= 1 {
-        return 1;
+
+    // The number of the session that holds an hour.
+    pub fn session_of(self, model: u32, hour: Hour) -> Session
+        ensures { result.0 ≡ session_of self.hours model hour.0 }
+    {
+        let first = self.hours_in_first();
+        if model == 1 {
+            Session(hour.0)
+        } else if hour.0 <= first {
+            Session(1)
+        } else {
+            Session(2 + (hour.0 - first - 1) / 4)
+        }
     }
-    rules::less(1 + 4 * (number - 1) + hours as u32, 24)
+
+    // How many hours the first session of the four-hour model has: four on a day of 24.
+    fn hours_in_first(self) -> u8
+        ensures { result ≡ 4 + self.hours - 24 }
+    {
+        self.hours.saturating_sub(20)
+    }
 }
 
-pub fn first_hour(hours: u8, model: u32, session: Session) -> Hour
-    ensures { result.0 ≡ first_hour_there hours model session.0 }
-{
-    if session_there(hours, model, session) {
-        return Hour(first_number(hours, model, session) as u8);
+#[tactic(auto, using(std::proofs::lemmas::Bool::Decides::nat_tests), unfolding(rules::specs::Sessions::session_there, rules::specs::Sessions::first_hour, rules::specs::Sessions::first_hour_there, rules::specs::Sessions::hours_in))]
+impl DaySession {
+    // The number of the day's last session.
+    fn last_number(self) -> u8
+        ensures { result ≡ cond (eqb self.model 1) self.day.hours 6 }
+    {
+        if self.model == 1 { self.day.hours } else { 6 }
     }
-    Hour(0)
-}
 
-// How many hours the first session of the four-hour model has.
-fn hours_in_first(hours: u8) -> u8
-    ensures { result ≡ 4 + hours - 24 }
-{
-    rules::less(4 + hours as u32, 24) as u8
-}
+    pub fn is_there(self) -> bool
+        ensures { result ≡ session_there self.day.hours self.model self.session.0 }
+    {
+        0 < self.session.0 && self.session.0 <= self.last_number()
+    }
 
-pub fn hours_in(hours: u8, model: u32, session: Session) -> u8
-    ensures { result ≡ hours_in hours model session.0 }
-{
-    let number = session.0;
-    if model == 1 {
-        return 1;
+    // The first hour of any session's number, there or not: it may be past what an `Hour` holds.
+    pub fn first_number(self) -> u16
+        ensures number { result ≡ first_hour self.day.hours self.model self.session.0 }
+        ensures most { result ≤ 1248 }
+    {
+        let number = self.session.0 as u16;
+        if self.model == 1 {
+            number
+        } else if number <= 1 {
+            1
+        } else {
+            (1 + 4 * (number - 1) + self.day.hours as u16).saturating_sub(24)
+        }
     }
-    if number <= 1 {
-        return hours_in_first(hours);
-    }
-    4
-}
 
-pub fn session_of(hours: u8, model: u32, hour: Hour) -> Session
-    ensures { result.0 ≡ session_of hours model hour.0 }
-{
-    let number = hour.0;
-    if model == 1 {
-        return Session(number);
+    pub fn first_hour(self) -> Option<Hour>
+        ensures there { IsSome result ↔ (session_there self.day.hours self.model self.session.0 ≡ true) }
+        ensures hour { IfSome result (λ hour. hour.0 ≡ first_hour_there self.day.hours self.model self.session.0) }
+    {
+        if self.is_there() {
+            Some(Hour(self.first_number() as u8))
+        } else {
+            None
+        }
     }
-    let first = hours_in_first(hours);
-    if number <= first {
-        return Session(1);
+
+    // How many hours the session has.
+    pub fn hours(self) -> u8
+        ensures { result ≡ hours_in self.day.hours self.model self.session.0 }
+    {
+        if self.model == 1 {
+            1
+        } else if self.session.0 <= 1 {
+            self.day.hours_in_first()
+        } else {
+            4
+        }
     }
-    Session(2 + (number - first - 1) / 4)
 }

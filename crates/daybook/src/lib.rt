@@ -6,9 +6,10 @@ ghost use Rattle.rules.specs.Said.{said, said_numbers};
 ghost use Rattle.rules.specs.Calls.{AddDirection, AddProfile, AddParty, OfferDirection, OfferProfile, Bid, Nominate, Match};
 ghost use Rattle.answers.specs.Promises.{Opens, Answers, ReadsDirection, ReadsProfile, ReadsRight, ReadsConfirmed};
 
-use answers::{ConfirmedRead, LeftRead, RightRead};
+use answers::{Capacity, LeftRead, RightRead};
 use cells::Book;
-use rules::{Answer, Hour, ReplyNumbers, Session};
+use rules::{Answer, Hour, Refusal, ReplyNumbers, Session};
+use tables::Direction;
 
 // ---- opening and set-up
 
@@ -23,7 +24,12 @@ pub fn open_day(book: &mut Book, year: u16, month: u8, day: u8) -> Answer
 pub fn add_direction(book: &mut Book, out: u8, into: u8, model: u8) -> Answer
     ensures { Answers book.old (AddDirection out into model) result book.new }
 {
-    setup::add_direction(book, out, into, model)
+    let direction = Direction {
+        out: out as u32,
+        into: into as u32,
+        model: model as u32,
+    };
+    setup::add_direction(book, direction)
 }
 
 // A map of directions, bit d for direction d. Granted: the profile's number.
@@ -46,14 +52,14 @@ pub fn add_party(book: &mut Book, code: [u8; 16], access: u8) -> Answer
 pub fn offer_direction(book: &mut Book, time: u32, direction: u8, hour: Hour, mw: u16) -> Answer
     ensures { Answers book.old (OfferDirection time direction hour.0 mw) result book.new }
 {
-    offers::offer_direction(book, time, direction, hour, mw)
+    offers::offer(book, time, Capacity::Direction(direction), hour, mw)
 }
 
 // The MW of a profile in an hour, also fewer than are granted there. Granted: what is left.
 pub fn offer_profile(book: &mut Book, time: u32, profile: u8, hour: Hour, mw: u16) -> Answer
     ensures { Answers book.old (OfferProfile time profile hour.0 mw) result book.new }
 {
-    offers::offer_profile(book, time, profile, hour, mw)
+    offers::offer(book, time, Capacity::Profile(profile), hour, mw)
 }
 
 // ---- bids
@@ -99,26 +105,26 @@ pub fn match_session(book: &mut Book, time: u32, direction: u8, session: Session
 // ---- reads
 
 // What is left of a direction in an hour, and the shortfall.
-pub fn left_of_direction(book: &Book, direction: u8, hour: Hour) -> LeftRead
+pub fn left_of_direction(book: &Book, direction: u8, hour: Hour) -> Result<LeftRead, Refusal>
     ensures { ReadsDirection book.now direction hour.0 result }
 {
-    reads::left_of_direction(book, direction, hour)
+    reads::left_of(book, Capacity::Direction(direction), hour)
 }
 
 // What is left of a profile in an hour, and the shortfall.
-pub fn left_of_profile(book: &Book, profile: u8, hour: Hour) -> LeftRead
+pub fn left_of_profile(book: &Book, profile: u8, hour: Hour) -> Result<LeftRead, Refusal>
     ensures { ReadsProfile book.now profile hour.0 result }
 {
-    reads::left_of_profile(book, profile, hour)
+    reads::left_of(book, Capacity::Profile(profile), hour)
 }
 
-pub fn right_at(book: &Book, right: u16) -> RightRead
+pub fn right_at(book: &Book, right: u16) -> Result<RightRead, Refusal>
     ensures { ReadsRight book.now right result }
 {
     reads::right_at(book, right)
 }
 
-pub fn confirmed_of(book: &Book, right: u16, out: u8, into: u8) -> ConfirmedRead
+pub fn confirmed_of(book: &Book, right: u16, out: u8, into: u8) -> Result<[u32; 5], Refusal>
     ensures { ReadsConfirmed book.now right out into result }
 {
     confirmed::confirmed_of(book, right, out, into)

@@ -1,13 +1,12 @@
 -- Each turn of the loop is the step that comes next, as `dayrun_progress` and `stream` describe it.
 -- Assumes nothing.
-use Rattle.std.specs.Prelude.{ℕ, suc, ◌+◌, ◌-◌, ◌^◌, ◌≤◌, ◌<◌, ◌≡◌, Bool, true, false, List, [], ◌++◌, length, take}
+use Rattle.std.specs.Prelude.{ℕ, suc, ◌-◌, ◌^◌, ◌≡◌, Bool, true, false, List, [], ◌++◌}
 use Rattle.cells.specs.View.{book_of}
-use Rattle.dayrun_settled.specs.Settled.{longest}
 use Rattle.dayrun_progress.specs.declared.Progress.{Progress}
 use Rattle.dayrun_progress.specs.declared.Next.{Next}
 use Rattle.dayrun_progress.specs.declared.Next.TheVariants.{Take, Write, Read, End}
 use Rattle.dayrun_records.specs.Records.{start_book}
-use Rattle.dayrun_progress.specs.States.{text_size, Fits, start_progress, wrote_progress, Fronted, received_progress}
+use Rattle.dayrun_progress.specs.States.{start_progress, wrote_progress, ReadsMore}
 use Rattle.stream.specs.Input.{printed}
 use Rattle.stream.specs.Running.{AnswersNext, State, next_in, Reaches}
 
@@ -18,61 +17,36 @@ pub record Wrote (progress r : Progress) : Type 0 where
   pub written : Bool
   pub after : r ≡ wrote_progress progress written
 
--- the unread bytes went to the front of the buffer, where there was room behind them, and a read put more there
-pub record ReadsMore (before : List ℕ) (progress r : Progress) (after : List ℕ) : Type 0 where
-  pub moved : Progress
-  pub front : List ℕ
-  pub more : List ℕ
-  pub fronted : Fronted before progress moved front
-  pub room : moved.to < length front
-  pub behind : take (moved.to + length more) after ≡ take moved.to front ++ more
-  pub received : r ≡ received_progress moved (length more)
-  pub fits : Fits after r
-  pub size : length after ≡ length before
-
-abbrev pub state_of : List ℕ → List ℕ → List ℕ → Progress → State
-state_of cells buffer text progress = record { cells = cells; buffer = buffer; text = text; progress = progress }
+abbrev pub state_of : List ℕ → Progress → State
+state_of cells progress = record { cells = cells; progress = progress }
 
 -- from a state by a step to the next state, each with the promise of the step's function
 pub data Steps : State → Next → State → Type 0 where
-  taking : (st : State) (r : Progress) (text after : List ℕ) → AnswersNext st.cells st.buffer st.progress st.text r text after → length text ≡ length st.text
-      → Steps st Take (record { cells = after; buffer = st.buffer; text = text; progress = r })
-  writing : (st : State) (r : Progress) → Wrote st.progress r → Steps st Write (record { cells = st.cells; buffer = st.buffer; text = st.text; progress = r })
-  reading : (st : State) (r : Progress) (buffer : List ℕ) → ReadsMore st.buffer st.progress r buffer
-      → Steps st Read (record { cells = st.cells; buffer = buffer; text = st.text; progress = r })
-  ending : (st : State) → Steps st End st
+  taking : (st : State) (r : Progress) (after : List ℕ) → AnswersNext st.cells st.progress r after → Steps st Take (state_of after r)
+  writing : (st : State) (r : Progress) → Wrote st.progress r → Steps st Write (state_of st.cells r)
+  reading : (st : State) (r : Progress) → ReadsMore st.progress r → Steps st Read (state_of st.cells r)
 
 -- ---- the steps from the start on
 
 -- so many steps lead to the state, each the one that comes next, and none of them the end
 pub data Turns : ℕ → State → Type 0 where
-  none : (cells buffer text : List ℕ) → book_of cells ≡ start_book → Turns 0 (record { cells = cells; buffer = buffer; text = text; progress = start_progress })
-  more : (n : ℕ) (st : State) (next : Next) (after : State) → Turns n st → next_in st ≡ next → (next ≡ End → ⊥) → Steps st next after → Turns (suc n) after
+  none : (cells : List ℕ) → book_of cells ≡ start_book → Turns 0 (state_of cells start_progress)
+  more : (n : ℕ) (st : State) (next : Next) (after : State) → Turns n st → next_in st ≡ next → Steps st next after → Turns (suc n) after
 
 -- the state is one that steps lead to, or the write that came next in such a state failed
 pub data Arrives : State → Type 0 where
   reached : (input written : List ℕ) (st : State) → Reaches input written st → Arrives st
-  failed : (input written : List ℕ) (st : State) → Reaches input written st → next_in st ≡ Write
-      → Arrives (record { cells = st.cells; buffer = st.buffer; text = st.text; progress = wrote_progress st.progress false })
-
--- and its positions lie in the buffer, which has room for any record, and in the text
-pub record Goes (st : State) : Type 0 where
-  pub fits : Fits st.buffer st.progress
-  pub room : longest ≤ length st.buffer
-  pub size : text_size ≤ length st.text
-  pub arrives : Arrives st
+  failed : (input written : List ℕ) (st : State) → Reaches input written st → next_in st ≡ Write → Arrives (state_of st.cells (wrote_progress st.progress false))
 
 -- ---- the whole loop
 
 -- with this book, so many turns were taken; where the loop came to its end, the end is what comes next, and else no turn is left
 pub record Loops (ended : Bool) (cells : List ℕ) : Type 0 where
-  pub buffer : List ℕ
-  pub text : List ℕ
   pub progress : Progress
   pub turns : ℕ
-  pub taken : Turns turns (state_of cells buffer text progress)
-  pub goes : Goes (state_of cells buffer text progress)
-  pub ends : ended ≡ true → next_in (state_of cells buffer text progress) ≡ End
+  pub taken : Turns turns (state_of cells progress)
+  pub arrives : Arrives (state_of cells progress)
+  pub ends : ended ≡ true → next_in (state_of cells progress) ≡ End
   pub all : ended ≡ false → turns ≡ 2 ^ 64 - 1
 
 -- some book is the one that it leaves
@@ -85,9 +59,8 @@ pub data Ends : State → Type 0 where
   all_written : (input written : List ℕ) (st : State) → Reaches input written st
       → ((rest : List ℕ) → (st.progress.ended ≡ true → rest ≡ []) → written ≡ printed start_book 1 (input ++ rest))
       → Ends st
-  cut_off : (input written : List ℕ) (st : State) → Reaches input written st → next_in st ≡ Write
-      → Ends (record { cells = st.cells; buffer = st.buffer; text = st.text; progress = wrote_progress st.progress false })
+  cut_off : (input written : List ℕ) (st : State) → Reaches input written st → next_in st ≡ Write → Ends (state_of st.cells (wrote_progress st.progress false))
 
 -- so it is where the loop came to its end
 abbrev pub EndsWritten : Type 0
-EndsWritten = (cells : List ℕ) (l : Loops true cells) → Ends (state_of cells l.buffer l.text l.progress)
+EndsWritten = (cells : List ℕ) (l : Loops true cells) → Ends (state_of cells l.progress)

@@ -1,72 +1,56 @@
 -- The program's state, what comes next there, and the states after the steps that take no record.
 -- Assumes nothing.
-use Rattle.std.specs.Prelude.{ℕ, ◌+◌, ◌-◌, ◌≤◌, ◌≡◌, Bool, false, cond, ◌||◌, ◌&&◌, not, List, eqb, leb, ltb, length, take, drop}
+use Rattle.std.specs.Prelude.{ℕ, ◌+◌, ◌≡◌, Bool, false, ◌||◌, ◌&&◌, not, List, [], ◌++◌, length, take, nat_lt, nat_le, ◌==◌, if◌then◌else◌}
+use Rattle.lines.specs.Text.{line_size}
 use Rattle.dayrun_settled.specs.Settled.{settled}
+use Rattle.dayrun_progress.specs.Input.{Brings}
 use Rattle.dayrun_progress.specs.declared.Progress.{Progress}
 use Rattle.dayrun_progress.specs.declared.Next.{Next}
 use Rattle.dayrun_progress.specs.declared.Next.TheVariants.{Take, Write, Read, End}
 
 -- ---- the state
 
--- the bytes that were read from the input and not yet taken
-abbrev pub unread : List ℕ → Progress → List ℕ
-unread buffer progress = take (progress.to - progress.from) (drop progress.from buffer)
-
 -- the lines that wait to be written
-abbrev pub collected : List ℕ → Progress → List ℕ
-collected text progress = take progress.filled text
+abbrev pub collected : Progress → List ℕ
+collected progress = progress.lines.items
 
 -- how many bytes of lines are collected at most
 abbrev pub text_size : ℕ
 text_size = 4096
 
--- no line has more bytes
-abbrev pub line_size : ℕ
-line_size = 84
-
--- its positions lie in the buffer and in the text
-pub record Fits (buffer : List ℕ) (progress : Progress) : Type 0 where
-  pub ordered : progress.from ≤ progress.to
-  pub inside : progress.to ≤ length buffer
-  pub room : progress.filled ≤ text_size
-
 -- ---- what comes next
 
 -- once the input has ended, any bytes that are left are answered; before, a record that is settled
 unfoldable pub answerable : Bool → List ℕ → Bool
-answerable ended s = cond ended (ltb 0 (length s)) (settled s)
+answerable ended s = if ended then nat_lt 0 (length s) else settled s
 
 -- the program goes on, a line more fits the text, and the next record can be answered
-abbrev pub ready : List ℕ → Progress → Bool
-ready bytes progress = not progress.done && leb (progress.filled + line_size) text_size && answerable progress.ended bytes
+abbrev pub ready : Progress → Bool
+ready progress = not progress.done && nat_le (length (collected progress) + line_size) text_size && answerable progress.ended progress.unread
 
 -- that record; else the collected lines are written; else the end, or a read
-unfoldable pub next_of : List ℕ → Progress → Next
-next_of bytes progress = cond (ready bytes progress) Take (cond (ltb 0 progress.filled) Write (cond (progress.done || progress.ended) End Read))
+unfoldable pub next_of : Progress → Next
+next_of progress =
+    if ready progress then Take else
+    if nat_lt 0 (length (collected progress)) then Write else
+    if progress.done || progress.ended then End else Read
 
 -- ---- the steps
 
 -- nothing is read, and the first position is 1
 abbrev pub start_progress : Progress
-start_progress = record { from = 0; to = 0; position = 1; ended = false; done = false; filled = 0 }
+start_progress = record { unread = []; lines = record { items = [] }; position = 1; ended = false; done = false }
 
 -- the lines were written; where they couldn't be, the program is done
 abbrev pub wrote_progress : Progress → Bool → Progress
-wrote_progress progress written =
-    record { from = progress.from; to = progress.to; position = progress.position; ended = progress.ended; done = progress.done || not written; filled = 0 }
+wrote_progress progress written = record progress { lines = record { items = [] }; done = progress.done || not written }
 
--- the same unread bytes, from the front of the buffer on
-abbrev pub front_progress : Progress → Progress
-front_progress progress =
-    record { from = 0; to = progress.to - progress.from; position = progress.position; ended = progress.ended; done = progress.done; filled = progress.filled }
+-- a read brought these bytes, behind the unread ones; none is the end of the input
+abbrev pub received_progress : Progress → List ℕ → Progress
+received_progress progress more = record progress { unread = progress.unread ++ more; ended = (length more == 0) }
 
--- the unread bytes are at the front of the buffer
-pub record Fronted (before : List ℕ) (progress r : Progress) (after : List ℕ) : Type 0 where
-  pub moved : r ≡ front_progress progress
-  pub front : take r.to after ≡ unread before progress
-  pub fits : Fits after r
-
--- a read brought some bytes more; none is the end of the input
-abbrev pub received_progress : Progress → ℕ → Progress
-received_progress progress more =
-    record { from = progress.from; to = progress.to + more; position = progress.position; ended = eqb more 0; done = progress.done; filled = progress.filled }
+-- so it is after a read, of no byte too
+pub record ReadsMore (progress r : Progress) : Type 0 where
+  pub count : ℕ
+  pub brings : Brings progress.unread count r.unread
+  pub received : r ≡ received_progress progress (take count brings.part)

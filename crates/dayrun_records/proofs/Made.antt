@@ -4,15 +4,11 @@ use Prim.Native.Nat.{ℕ, ◌<◌}
 use mathlib.Core.Path.{◌≡◌, refl, sym, ap, ◌∙◌}
 use mathlib.Core.Bool.{true, true≢false}
 use mathlib.Core.List.{List}
-use lib.Dec.{ltb}
 use lib.ListN.{get_or}
-use borrow.Author.Tests.{ltb-true}
 use Rattle.rules.specs.Calls.{Call, OfferDirection, OfferProfile, Bid, Nominate, Match}
 use Rattle.rules.specs.Records.{is_kind}
-use Rattle.rules.specs.declared.Answer.{Answer}
-use Rattle.rules.specs.declared.Answer.TheVariants.{Record}
+use Rattle.rules.specs.Said.{Answer}
 use Rattle.rules.specs.declared.CallRecord.{CallRecord}
-use Rattle.rules.proofs.Bools.{and_left, and_right}
 use Rattle.answers.specs.Promises.{Answers}
 use Rattle.dayrun_records.specs.Records.{call_made, AnswersRecord}
 
@@ -40,11 +36,3 @@ module _ (c : CallRecord) where
   pub made_5 : c.kind ≡ 5 → call_made c ≡ Match c.time c.direction c.session.0
   unfolding call_made
   made_5 e = rw e
-
--- a kind is below 6, and not 0
-kind_within : (k : ℕ) → is_kind k ≡ true → (0 < k) × (k < 6)
-kind_within k e = (ltb-true 0 k (and_left (ltb 0 k) _ e), ltb-true k 6 (and_right (ltb 0 k) _ e))
-
--- no kind: refused, and every cell is as it was
-pub unanswered : (b : List ℕ) (c : CallRecord) → (0 < c.kind → c.kind < 6 → ⊥) → AnswersRecord b c Record b
-unanswered b c h = record { made = λ e. let k = kind_within c.kind e in absurd (h k.0 k.1); none = λ _. (refl, refl) }

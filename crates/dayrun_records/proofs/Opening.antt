@@ -6,7 +6,7 @@ use mathlib.Core.List.{List}
 use Rattle.rules.specs.Book.{Book}
 use Rattle.rules.specs.Calls.{AddDirection, AddParty}
 use Rattle.rules.specs.Run.{applied, run}
-use Rattle.rules.specs.declared.Answer.{Answer}
+use Rattle.rules.specs.Said.{Answer}
 use Rattle.cells.specs.View.{book_of}
 use Rattle.answers.specs.Promises.{Opens, Answers}
 use Rattle.dayrun_records.specs.Records.{ceps, start_calls, start_book}

@@ -1,14 +1,15 @@
 -- What a call record does to a book, and what the functions over records promise.
 -- Assumes nothing.
-use Rattle.std.specs.Prelude.{ℕ, ◌≤◌, ◌<◌, ◌≡◌, true, false, cond, List, [], ◌∷◌, eqb, length, get_or}
+use Rattle.std.specs.Prelude.{ℕ, ◌≤◌, ◌<◌, ◌≡◌, true, false, cond, List, [], ◌∷◌, eqb, length, get_or, Ok, Err}
+use Rattle.std.specs.declared.result.Result.{Result}
 use Rattle.rules.specs.Book.{Book}
 use Rattle.rules.specs.Calls.{Call, AddDirection, AddParty, OfferDirection, OfferProfile, Bid, Nominate, Match, Reply, is_grant}
-use Rattle.rules.specs.Said.{said}
+use Rattle.rules.specs.Said.{Answer, said}
 use Rattle.rules.specs.Run.{applied, run}
 use Rattle.rules.specs.Opening.{opening}
 use Rattle.rules.specs.Records.{is_kind, reading}
-use Rattle.rules.specs.declared.Answer.{Answer}
-use Rattle.rules.specs.declared.Answer.TheVariants.{Record}
+use Rattle.rules.specs.declared.Refusal.{Refusal}
+use Rattle.rules.specs.declared.Refusal.TheVariants.{Record}
 use Rattle.rules.specs.declared.CallRecord.{CallRecord}
 use Rattle.cells.specs.View.{book_of}
 use Rattle.answers.specs.Promises.{Answers}
@@ -42,7 +43,7 @@ call_made c =
 -- a record of a kind is answered as its call; one of no kind, which the reader never gives, is refused with 1
 pub record AnswersRecord (before : List ℕ) (c : CallRecord) (r : Answer) (after : List ℕ) : Type 0 where
   pub made : is_kind c.kind ≡ true → Answers before (call_made c) r after
-  pub none : is_kind c.kind ≡ false → (r ≡ Record) × (after ≡ before)
+  pub none : is_kind c.kind ≡ false → (r ≡ Err Record) × (after ≡ before)
 
 -- ---- the record at the front of bytes
 
@@ -59,11 +60,21 @@ at_front b s =
     cond (eqb (reading s).reply.number 0) (record { reply = (applied b c).reply; book = (applied b c).book; length = (reading s).length })
     (record { reply = (reading s).reply; book = b; length = 0 })
 
+-- what is answered to a record, read or not
+abbrev pub answer_of : Result Taken Refusal → Answer
+answer_of (Ok taken) = taken.answer
+answer_of (Err refusal) = Err refusal
+
+-- how many bytes it takes: none where it can't be read
+abbrev pub length_of : Result Taken Refusal → ℕ
+length_of (Ok taken) = taken.length
+length_of (Err refusal) = 0
+
 -- a call record is taken from the front of the bytes
-pub record Takes (before bytes : List ℕ) (r : Taken) (after : List ℕ) : Type 0 where
-  pub reply : said r.answer ≡ (at_front (book_of before) bytes).reply
+pub record Takes (before bytes : List ℕ) (r : Result Taken Refusal) (after : List ℕ) : Type 0 where
+  pub reply : said (answer_of r) ≡ (at_front (book_of before) bytes).reply
   pub book : book_of after ≡ (at_front (book_of before) bytes).book
-  pub size : r.length ≡ (at_front (book_of before) bytes).length
-  pub kept : is_grant (said r.answer) ≡ false → after ≡ before
-  pub within : r.length ≤ length bytes
+  pub size : length_of r ≡ (at_front (book_of before) bytes).length
+  pub kept : is_grant (said (answer_of r)) ≡ false → after ≡ before
+  pub within : length_of r ≤ length bytes
   pub fit : (i : ℕ) → get_or bytes i 0 < 256

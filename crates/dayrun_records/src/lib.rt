@@ -6,9 +6,9 @@ ghost use Rattle.cells.specs.View.{book_of};
 ghost use Rattle.dayrun_records.specs.Records.{start_book, AnswersRecord, Takes};
 
 use cells::Book;
-use rules::{Answer, CallRecord};
+use rules::{Answer, CallRecord, Refusal};
 
-// The answer to the record at the front of bytes, and the record's length; 0 where it can't be read.
+// The answer to a record that was read, and the record's length.
 #[derive(Clone, Copy)]
 pub struct Taken {
     pub answer: Answer,
@@ -19,19 +19,18 @@ pub struct Taken {
 pub fn open_book(book: &mut Book)
     ensures { book_of book.new ≡ start_book }
 {
-    daybook::open_day(book, 2015, 6, 1);
-    daybook::add_direction(book, 0, 4, 1);
-    daybook::add_party(book, *b"10XCZ-CEPS-GRIDE", 1);
+    let _ = daybook::open_day(book, 2015, 6, 1);
+    let _ = daybook::add_direction(book, 0, 4, 1);
+    let _ = daybook::add_party(book, *b"10XCZ-CEPS-GRIDE", 1);
 }
 
 // Makes the call of a record. A record of no kind is refused.
 fn answer_record(book: &mut Book, call: CallRecord) -> Answer
     ensures { AnswersRecord book.old call result book.new }
 {
-    let kind = call.kind;
     let time = call.time as u32;
     let mw = call.mw;
-    match kind {
+    match call.kind {
         1 => daybook::offer_direction(book, time, call.direction, call.hour, mw[0]),
         2 => daybook::offer_profile(book, time, call.profile, call.hour, mw[0]),
         3 => daybook::bid(book, time, call.party, call.direction, call.session, mw),
@@ -39,17 +38,17 @@ fn answer_record(book: &mut Book, call: CallRecord) -> Answer
             book, time, call.party, call.other, call.right, call.side, mw,
         ),
         5 => daybook::match_session(book, time, call.direction, call.session),
-        _ => Answer::Record,
+        _ => Err(Refusal::Record),
     }
 }
 
-// Reads the record at the front of the bytes, and makes its call. The reader gives no kind where it refuses.
-pub fn take_record(book: &mut Book, bytes: &[u8]) -> Taken
+// Reads the record at the front of the bytes, and makes its call; or answers why it can't be read.
+pub fn take_record(book: &mut Book, bytes: &[u8]) -> Result<Taken, Refusal>
     ensures { Takes book.old bytes.now result book.new }
 {
-    let read = record::read(bytes);
-    Taken {
+    let read = record::read(bytes)?;
+    Ok(Taken {
         answer: answer_record(book, read.call),
         length: read.length,
-    }
+    })
 }

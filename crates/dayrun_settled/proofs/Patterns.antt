@@ -1,10 +1,11 @@
 -- The patterns of the kinds are read, and so nothing is settled before the first byte. Computed.
 -- Assumes nothing.
 use mathlib.Core.Path.{◌≡◌, refl}
-use mathlib.Core.Bool.{true, false}
+use mathlib.Core.Bool.{Bool, true, false, ◌||◌}
 use Prim.Native.Nat.{ℕ}
 use mathlib.Core.List.{List, [], ◌∷◌, ◌++◌}
 use lib.ListN.{length, drop, replicate}
+use Rattle.std.specs.List.{list_any}
 use Rattle.rules.specs.Basics.{bit, map_of, has}
 use Rattle.rules.specs.Refusals.{order, first_of}
 use Rattle.rules.specs.Records.{widths, call_of, kinds, stands, standing, bytes_of, number_at, fields_at, end_at, fields_in, end_in, reader_refuses, reading}
@@ -34,23 +35,24 @@ pub nothing_open : settled [] ≡ false
 unfolding bit map_of has order first_of widths call_of kinds stands standing bytes_of number_at fields_at end_at fields_in end_in reader_refuses reading pattern completed can_be_read settled
 nothing_open = refl
 
--- the bytes that complete a kind
-pub as_1 : (s : List ℕ) → is_read (s ++ drop (length s) (19 ∷ 64 ∷ replicate 22 1)) ≡ is_read (completed 1 s)
-unfolding bit map_of has kinds stands standing bytes_of pattern completed
-as_1 s = refl
+-- ---- the table of the patterns
 
-pub as_2 : (s : List ℕ) → is_read (s ++ drop (length s) (35 ∷ 64 ∷ replicate 22 2)) ≡ is_read (completed 2 s)
-unfolding bit map_of has kinds stands standing bytes_of pattern completed
-as_2 s = refl
+-- that of the code
+abbrev pub patterns : List (ℕ × List ℕ)
+patterns = (1, 19 ∷ 64 ∷ []) ∷ (2, 35 ∷ 64 ∷ []) ∷ (3, 87 ∷ 0 ∷ []) ∷ (4, 143 ∷ 1 ∷ []) ∷ (5, 83 ∷ 0 ∷ []) ∷ []
 
-pub as_3 : (s : List ℕ) → is_read (s ++ drop (length s) (87 ∷ 0 ∷ replicate 22 3)) ≡ is_read (completed 3 s)
-unfolding bit map_of has kinds stands standing bytes_of pattern completed
-as_3 s = refl
+abbrev pub read_by : List ℕ → ℕ × List ℕ → Bool
+read_by s p = is_read (s ++ drop (length s) (p.1 ++ replicate 22 p.0))
 
-pub as_4 : (s : List ℕ) → is_read (s ++ drop (length s) (143 ∷ 1 ∷ replicate 22 4)) ≡ is_read (completed 4 s)
-unfolding bit map_of has kinds stands standing bytes_of pattern completed
-as_4 s = refl
+any_of : (a b c d e : Bool) → (a || (b || (c || (d || (e || false))))) ≡ (a || b || c || d || e)
+any_of true b c d e = refl
+any_of false true c d e = refl
+any_of false false true d e = refl
+any_of false false false true e = refl
+any_of false false false false true = refl
+any_of false false false false false = refl
 
-pub as_5 : (s : List ℕ) → is_read (s ++ drop (length s) (83 ∷ 0 ∷ replicate 22 5)) ≡ is_read (completed 5 s)
-unfolding bit map_of has kinds stands standing bytes_of pattern completed
-as_5 s = refl
+-- one of them completes the bytes, where one of the kinds does
+pub any_pattern : (s : List ℕ) → list_any (read_by s) patterns ≡ can_be_read s
+unfolding bit map_of has kinds stands standing bytes_of pattern completed can_be_read
+any_pattern s = any_of (is_read (completed 1 s)) (is_read (completed 2 s)) (is_read (completed 3 s)) (is_read (completed 4 s)) (is_read (completed 5 s))

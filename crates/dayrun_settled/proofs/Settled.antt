@@ -226,7 +226,7 @@ begins =
 
 -- ---- what can be read
 
-pub any_kind : (s : List ℕ) (k : ℕ) → is_kind k ≡ true → is_read (completed k s) ≡ true → can_be_read s ≡ true
+any_kind : (s : List ℕ) (k : ℕ) → is_kind k ≡ true → is_read (completed k s) ≡ true → can_be_read s ≡ true
 unfolding can_be_read
 any_kind s =
     by_kind (λ (k : ℕ). is_read (completed k s) ≡ true → can_be_read s ≡ true)
@@ -235,11 +235,6 @@ any_kind s =
     (λ e. rw (e, or-true (is_read (completed 1 s) || is_read (completed 2 s))))
     (λ e. rw (e, or-true (is_read (completed 1 s) || is_read (completed 2 s) || is_read (completed 3 s))))
     (λ e. rw (e, or-true (is_read (completed 1 s) || is_read (completed 2 s) || is_read (completed 3 s) || is_read (completed 4 s))))
-
-pub last_kind : (s : List ℕ) → is_read (completed 1 s) ≡ false → is_read (completed 2 s) ≡ false → is_read (completed 3 s) ≡ false → is_read (completed 4 s) ≡ false
-    → is_read (completed 5 s) ≡ can_be_read s
-unfolding can_be_read
-last_kind s a b c d = rw (a, b, c, d)
 
 open_can : (s : List ℕ) → settled s ≡ false → can_be_read s ≡ true
 unfolding settled

@@ -7,24 +7,29 @@ ghost use Rattle.dayrun_settled.specs.Settled.{longest, is_read, can_be_read, se
 // The map and all fields that it has bits for: a bound that no record exceeds.
 pub const LONGEST: usize = 24;
 
+// Each kind, and the map of its record without MW, low byte first.
+const PATTERNS: [(u8, [u8; 2]); 5] = [
+    (1, [0x13, 0x40]),
+    (2, [0x23, 0x40]),
+    (3, [0x57, 0x00]),
+    (4, [0x8F, 0x01]),
+    (5, [0x53, 0x00]),
+];
+
 // The bytes begin with a record.
 fn is_read(bytes: &[u8]) -> bool
     ensures { result ≡ is_read bytes.now }
 {
-    let read = record::read(bytes);
-    let answer = read.answer;
-    let reply = answers::numbers(answer);
-    reply.number == 0
+    record::read(bytes).is_ok()
 }
 
 // They do once the bytes that are missing are the kind's map and number.
-fn is_read_as(bytes: &[u8], kind: u8, low: u8, high: u8) -> bool
+fn is_read_as(bytes: &[u8], kind: u8, map: [u8; 2]) -> bool
     requires { length bytes.now ≤ longest }
-    ensures { result ≡ is_read (bytes.now ++ drop (length bytes.now) (low ∷ high ∷ replicate 22 kind)) }
+    ensures { result ≡ is_read (bytes.now ++ drop (length bytes.now) (map ++ replicate 22 kind)) }
 {
     let mut completed = [kind; LONGEST];
-    completed[0] = low;
-    completed[1] = high;
+    completed[..2].copy_from_slice(&map);
     completed[..bytes.len()].copy_from_slice(bytes);
     is_read(&completed)
 }
@@ -34,30 +39,15 @@ fn can_be_read(bytes: &[u8]) -> bool
     requires { length bytes.now ≤ longest }
     ensures { result ≡ can_be_read bytes.now }
 {
-    if is_read_as(bytes, 1, 0x13, 0x40) {
-        return true;
-    }
-    if is_read_as(bytes, 2, 0x23, 0x40) {
-        return true;
-    }
-    if is_read_as(bytes, 3, 0x57, 0x00) {
-        return true;
-    }
-    if is_read_as(bytes, 4, 0x8F, 0x01) {
-        return true;
-    }
-    is_read_as(bytes, 5, 0x53, 0x00)
+    PATTERNS
+        .iter()
+        .any(|(kind, map)| is_read_as(bytes, *kind, *map))
 }
 
 // The answer is known, whatever follows the bytes.
+#[tactic(auto, using(crate::proofs::Settled::long_settled), unfolding(crate::specs::Settled::settled))]
 pub fn is_settled(bytes: &[u8]) -> bool
     ensures { result ≡ settled bytes.now }
 {
-    if bytes.len() >= LONGEST {
-        return true;
-    }
-    if is_read(bytes) {
-        return true;
-    }
-    !can_be_read(bytes)
+    bytes.len() >= LONGEST || is_read(bytes) || !can_be_read(bytes)
 }

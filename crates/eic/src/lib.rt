@@ -1,25 +1,22 @@
 // Party codes: sixteen characters, of which the last is a check on the others.
 #![tactic(auto)]
 
-ghost use Rattle.std.specs.Prelude.{◌≡◌, ◌-◌, ◌*◌, ◌%◌, ◌≤◌, ◌<◌};
-ghost use Rattle.rules.specs.Codes.{is_code};
-ghost use Rattle.eic.specs.Chars.{Reads};
+ghost use Rattle.std.specs.Prelude.{◌≡◌, ◌-◌, ◌*◌, ◌%◌, ◌≤◌, ◌<◌, true, false, length, MatchOption};
+ghost use Rattle.rules.specs.Codes.{char_value, all_chars, weighted, is_code};
 
-// What a byte is worth in a code.
-#[derive(Clone, Copy)]
-enum CharValue {
-    Is(u8),
-    Not,
-}
+// The third character says what a code names: X a party.
+const PARTY: u8 = b'X';
 
-fn char_value(byte: u8) -> CharValue
-    ensures { Reads byte result }
+// What a byte is worth in a code; none where it is no character of one.
+#[tactic(auto, using(std::proofs::lemmas::Bool::Decides::nat_tests), unfolding(rules::specs::Codes::char_value, rules::specs::Basics::between))]
+fn char_value(byte: u8) -> Option<u8>
+    ensures { MatchOption result (char_value byte ≡ 37) (λ value. (value ≡ char_value byte) × (value < 37)) }
 {
     match byte {
-        b'0'..=b'9' => CharValue::Is(byte - b'0'),
-        b'A'..=b'Z' => CharValue::Is(byte - b'A' + 10),
-        b'-' => CharValue::Is(36),
-        _ => CharValue::Not,
+        b'0'..=b'9' => Some(byte - b'0'),
+        b'A'..=b'Z' => Some(byte - b'A' + 10),
+        b'-' => Some(36),
+        _ => None,
     }
 }
 
@@ -28,34 +25,39 @@ fn weighed(weight: u32, value: u8) -> u32
     requires { (weight ≤ 16) × (value < 37) }
     ensures { (result ≡ weight * value) × (result ≤ 576) }
 {
-    weight * value as u32
+    weight * u32::from(value)
+}
+
+// The first character has the weight 16, the next 15, and so on; none where a byte is no character.
+#[tactic(auto, using(crate::proofs::Codes::turns))]
+fn weighted_sum(bytes: &[u8]) -> Option<u32>
+    requires { length bytes.now ≤ 16 }
+    ensures { MatchOption result (all_chars bytes.now ≡ false) (λ sum. (all_chars bytes.now ≡ true) × (sum ≡ weighted 16 bytes.now)) }
+{
+    let mut sum: u32 = 0;
+    for (place, byte) in bytes.iter().enumerate() {
+        let value = char_value(*byte)?;
+        sum += weighed(16 - place as u32, value);
+    }
+    Some(sum)
 }
 
 // The value that the last character must have, by the weighted sum of the others.
 fn check_value(sum: u32) -> u32
     ensures { result ≡ 36 - (sum - 1) % 37 }
 {
-    if sum == 0 {
-        return 36;
-    }
-    36 - (sum - 1) % 37
+    36 - sum.saturating_sub(1) % 37
 }
 
+#[tactic(auto, using(crate::proofs::Codes::characters_of_code, crate::proofs::Codes::no_code))]
 pub fn is_party_code(code: [u8; 16]) -> bool
     ensures { result ≡ is_code code }
 {
-    let mut sum: u32 = 0;
-    for k in 0..15 {
-        let CharValue::Is(value) = char_value(code[k]) else {
-            return false;
-        };
-        sum += weighed(16 - k as u32, value);
-    }
-    let CharValue::Is(last) = char_value(code[15]) else {
+    let Some(sum) = weighted_sum(&code[..15]) else {
         return false;
     };
-    if code[2] != b'X' {
+    let Some(last) = char_value(code[15]) else {
         return false;
-    }
-    last as u32 == check_value(sum) && last != 36
+    };
+    code[2] == PARTY && u32::from(last) == check_value(sum) && last != 36
 }

@@ -1,8 +1,8 @@
 -- The map of a kind's bits has the bit of a field exactly when it is among them.
 -- Assumes nothing.
 use Prim.Native.Nat.{ℕ, zero, suc, ◌+◌, ◌<◌, ◌≤◌}
-use mathlib.Core.Path.{◌≡◌, refl, sym, ap, ◌∙◌}
-use mathlib.Core.Bool.{Bool, false}
+use mathlib.Core.Path.{◌≡◌, refl, ap, ◌∙◌}
+use mathlib.Core.Bool.{false}
 use mathlib.Core.List.{List, []}
 use native.Mathlib.Omega.{arith}
 use native.Mathlib.Nat.{add-zero, zero-add}
@@ -18,9 +18,8 @@ among_at zero i j ns l = absurd (omega arith)
 among_at (suc n) i zero ns l = rw (add-zero i)
 among_at (suc n) i (suc j) ns l = let e : i + suc j ≡ suc i + j = omega arith in rw e (among_at n (suc i) j ns (omega arith))
 
-pub marked : {r : Bool} {map : ℕ} (j : ℕ) (ns : List ℕ) → j < 15 → map ≡ map_of (among_bits 15 0 ns) → r ≡ bit map j → has j ns ≡ r
-marked {r} {map} j ns l m e =
-    sym (e ∙ ap (λ (n : ℕ). bit n j) m ∙ bit_of_map (among_bits 15 0 ns) j ∙ among_at 15 0 j ns l ∙ ap (λ (i : ℕ). has i ns) (zero-add j))
+pub marked : (j : ℕ) (ns : List ℕ) → j < 15 → bit (map_of (among_bits 15 0 ns)) j ≡ has j ns
+marked j ns l = bit_of_map (among_bits 15 0 ns) j ∙ among_at 15 0 j ns l ∙ ap (λ (i : ℕ). has i ns) (zero-add j)
 
 pub no_kind_lem : (k : ℕ) → (0 < k → 6 ≤ k) → kind_maps (kind_at k) ≡ record { always = 0; mws = 0 }
 unfolding among_bits map_of has kinds

@@ -1,3 +1,3 @@
 pub mod KindBits
-pub mod Fields
+pub mod Widths
 pub mod Turns

@@ -29,12 +29,6 @@ pub record Size (field : ℕ) (stands : Bool) (r : ℕ) : Type 0 where
   pub taken : r ≡ taking (get_or widths field 0) stands
   pub few : r ≤ 4
 
--- the MW of a call, and what the types of its fields say of all their values
-pub record MwOf (c : CallRecord) (r : List ℕ) : Type 0 where
-  pub same : r ≡ c.mw
-  pub each : (i : ℕ) → get_or r i 0 < 65536
-  pub fits : CallFits c
-
 -- the reader's tests of a map and the values that were read by it
 abbrev pub map_refused : ℕ → List ℕ → Bool
 map_refused map vs = bit map 15 || not (is_kind (get_or vs 0 0)) || not (eqb map (map_for (get_or vs 0 0) vs))

@@ -1,15 +1,14 @@
 // The fields of a call record: the tables of their widths and of the kinds, a call as its fields, the map of a kind, and the tests of a map.
 #![tactic(auto)]
 
-ghost use Rattle.std.specs.Prelude.{◌≡◌, ◌||◌, ◌&&◌, not, ◌<◌, eqb};
+ghost use Rattle.std.specs.Prelude.{◌≡◌, ◌||◌, ◌&&◌, not, ◌<◌, eqb, get_or};
 ghost use Rattle.rules.specs.Basics.{bit, has};
-ghost use Rattle.rules.specs.Records.{fields_of, call_of, no_call, kind_at, is_kind, stands, map_for, foreign};
-ghost use Rattle.fields.specs.Fields.{FieldsFit, CallFits, kind_maps, Size, MwOf, map_refused};
+ghost use Rattle.rules.specs.Records.{fields_of, call_of, kind_at, is_kind, stands, map_for, foreign};
+ghost use Rattle.fields.specs.Fields.{FieldsFit, CallFits, kind_maps, Size, map_refused};
 
-use rules::{CallRecord, Hour, Session};
+use rules::{CallRecord, Hour, Session, has_bit};
 
-// The value of each field by its bit; 0 where the field is not there.
-pub type Fields = [u32; 15];
+// ---- kinds
 
 // The bits of a kind: those that always stand, and those of its MW, which stand where the MW is not 0.
 #[derive(Clone, Copy)]
@@ -18,20 +17,8 @@ struct KindMaps {
     mws: u32,
 }
 
-// ---- the tables of fields and kinds
-
-// The width of each field in bytes, by its bit.
-const WIDTHS: [usize; 15] = [1, 2, 1, 1, 1, 1, 1, 2, 1, 2, 2, 2, 2, 2, 1];
-
-// How many bytes a field takes: its width where it stands, else none.
-fn size_of(field: usize, stands: bool) -> usize
-    requires { field < 15 }
-    ensures { Size field stands result }
-{
-    if stands { WIDTHS[field] } else { 0 }
-}
-
-// The bits of each kind, bit 0 rightmost.
+// Bit 0 is rightmost. The kind stays a number: the writer promises a refusal for a number that is no kind, and an enum couldn't hold one.
+#[tactic(auto, using(crate::proofs::KindBits::no_kind_lem), unfolding(crate::specs::Fields::among_bits, rules::specs::Basics::map_of, rules::specs::Basics::has, rules::specs::Records::kinds))]
 fn maps_of(kind: u32) -> KindMaps
     ensures { result ≡ kind_maps (kind_at kind) }
 {
@@ -63,158 +50,160 @@ fn maps_of(kind: u32) -> KindMaps
 pub fn is_kind(kind: u32) -> bool
     ensures { result ≡ is_kind kind }
 {
-    0 < kind && kind < 6
+    (1..=5).contains(&kind)
 }
 
-fn has_bit(map: u32, field: usize) -> bool
-    requires { field < 16 }
-    ensures { result ≡ bit map field }
-{
-    (map >> field) % 2 == 1
+// ---- one field
+
+// The width of each field in bytes, by its bit.
+const WIDTHS: [usize; 15] = [1, 2, 1, 1, 1, 1, 1, 2, 1, 2, 2, 2, 2, 2, 1];
+
+// A field by its bit in the map.
+#[derive(Clone, Copy)]
+pub struct Field {
+    pub bit: usize,
+    ghost within: { bit < 15 },
 }
 
-// The field is in a record of the kind.
-fn is_written(kind: u32, field: usize, value: u32) -> bool
-    requires { field < 15 }
-    ensures { result ≡ stands (kind_at kind) field value }
-{
-    let maps = maps_of(kind);
-    if has_bit(maps.always, field) {
-        return true;
+impl Field {
+    // How many bytes it takes: its width where it stands, else none.
+    fn size(self, stands: bool) -> usize
+        ensures { Size self.bit stands result }
+    {
+        if stands { WIDTHS[self.bit] } else { 0 }
     }
-    has_bit(maps.mws, field) && value != 0
-}
 
-// How many bytes a field takes in a record with the map.
-pub fn size_read(map: u32, field: usize) -> usize
-    requires { field < 15 }
-    ensures { Size field (bit map field) result }
-{
-    size_of(field, has_bit(map, field))
-}
-
-// How many bytes a field takes in a record of the kind.
-pub fn size_written(kind: u32, field: usize, value: u32) -> usize
-    requires { field < 15 }
-    ensures { Size field (stands (kind_at kind) field value) result }
-{
-    size_of(field, is_written(kind, field, value))
-}
-
-// The field is foreign to the kind, and not zero.
-fn is_foreign(kind: u32, field: usize, value: u32) -> bool
-    requires { field < 15 }
-    ensures { result ≡ (not (has field (kind_at kind).always || has field (kind_at kind).mws) && not (eqb value 0)) }
-{
-    let maps = maps_of(kind);
-    if has_bit(maps.always, field) {
-        return false;
+    // How many bytes it takes in a record with the map.
+    pub fn size_read(self, map: u32) -> usize
+        ensures { Size self.bit (bit map self.bit) result }
+    {
+        self.size(has_bit(map, self.bit as u32))
     }
-    if has_bit(maps.mws, field) {
-        return false;
+
+    // How many bytes it takes in a record of the kind.
+    pub fn size_written(self, kind: u32, value: u32) -> usize
+        ensures { Size self.bit (stands (kind_at kind) self.bit value) result }
+    {
+        self.size(self.is_written(kind, value))
     }
-    value != 0
-}
 
-// ---- a call and its fields
+    // It is in a record of the kind.
+    #[tactic(auto, using(std::proofs::lemmas::Bool::Decides::nat_tests, crate::proofs::KindBits::marked), unfolding(rules::specs::Records::stands))]
+    fn is_written(self, kind: u32, value: u32) -> bool
+        ensures { result ≡ stands (kind_at kind) self.bit value }
+    {
+        let maps = maps_of(kind);
+        has_bit(maps.always, self.bit as u32) || has_bit(maps.mws, self.bit as u32) && value != 0
+    }
 
-// The MW; that each field has its type's range goes to the proofs of callers.
-fn mw_of(call: CallRecord) -> [u16; 5]
-    ensures { MwOf call result }
-{
-    call.mw
-}
-
-pub fn fields_of(call: CallRecord) -> Fields
-    ensures { (result ≡ fields_of call) × CallFits call }
-{
-    let mw = mw_of(call);
-    [
-        call.kind as u32,
-        call.time as u32,
-        call.party as u32,
-        call.other as u32,
-        call.direction as u32,
-        call.profile as u32,
-        call.session.0 as u32,
-        call.right as u32,
-        call.side as u32,
-        mw[0] as u32,
-        mw[1] as u32,
-        mw[2] as u32,
-        mw[3] as u32,
-        mw[4] as u32,
-        call.hour.0 as u32,
-    ]
-}
-
-pub fn call_of(values: Fields) -> CallRecord
-    requires { FieldsFit values }
-    ensures { result ≡ call_of values }
-{
-    CallRecord {
-        kind: values[0] as u8,
-        time: values[1] as u16,
-        party: values[2] as u8,
-        other: values[3] as u8,
-        direction: values[4] as u8,
-        profile: values[5] as u8,
-        session: Session(values[6] as u8),
-        right: values[7] as u16,
-        side: values[8] as u8,
-        mw: [
-            values[9] as u16,
-            values[10] as u16,
-            values[11] as u16,
-            values[12] as u16,
-            values[13] as u16,
-        ],
-        hour: Hour(values[14] as u8),
+    // It is foreign to the kind, and not zero.
+    #[tactic(auto, using(std::proofs::lemmas::Bool::Decides::nat_tests, crate::proofs::KindBits::marked))]
+    fn is_foreign(self, kind: u32, value: u32) -> bool
+        ensures { result ≡ (not (has self.bit (kind_at kind).always || has self.bit (kind_at kind).mws) && not (eqb value 0)) }
+    {
+        let maps = maps_of(kind);
+        !(has_bit(maps.always, self.bit as u32) || has_bit(maps.mws, self.bit as u32)) && value != 0
     }
 }
 
-// Every field is 0.
-pub fn no_call() -> CallRecord
-    ensures { result ≡ no_call }
-{
-    call_of([0u32; 15])
-}
+// ---- the fields of a call
 
-// The map of a kind's record with these values, from the last bit down.
-pub fn map_for(kind: u32, values: Fields) -> u32
-    ensures { result ≡ map_for kind values }
-{
-    let mut map: u32 = 0;
-    let mut field: usize = 15;
-    while 0 < field {
-        field -= 1;
-        map = is_written(kind, field, values[field]) as u32 + 2 * map;
+// The value of each field by its bit; 0 where the field is not there.
+#[derive(Clone, Copy, PartialEq, Eq)]
+pub struct Fields(pub [u32; 15]);
+
+impl From<CallRecord> for Fields {
+    ghost from_gives = { λ call fields. (fields.0 ≡ fields_of call) × CallFits call };
+
+    fn from(call: CallRecord) -> Fields {
+        let mw = call.mw;
+        Fields([
+            call.kind as u32,
+            call.time as u32,
+            call.party as u32,
+            call.other as u32,
+            call.direction as u32,
+            call.profile as u32,
+            call.session.0 as u32,
+            call.right as u32,
+            call.side as u32,
+            mw[0] as u32,
+            mw[1] as u32,
+            mw[2] as u32,
+            mw[3] as u32,
+            mw[4] as u32,
+            call.hour.0 as u32,
+        ])
     }
-    map
 }
 
-// A field that is foreign to the kind is not zero.
-pub fn any_foreign(kind: u32, values: Fields) -> bool
-    ensures { result ≡ foreign (kind_at kind) 0 values }
-{
-    for field in 0..15 {
-        if is_foreign(kind, field, values[field]) {
-            return true;
+impl Fields {
+    pub fn kind(self) -> u32
+        ensures { result ≡ get_or self.0 0 0 }
+    {
+        self.0[0]
+    }
+
+    #[tactic(auto, unfolding(rules::specs::Records::widths, rules::specs::Records::call_of))]
+    pub fn call(self) -> CallRecord
+        requires { FieldsFit self.0 }
+        ensures { result ≡ call_of self.0 }
+    {
+        let values = self.0;
+        CallRecord {
+            kind: values[0] as u8,
+            time: values[1] as u16,
+            party: values[2] as u8,
+            other: values[3] as u8,
+            direction: values[4] as u8,
+            profile: values[5] as u8,
+            session: Session(values[6] as u8),
+            right: values[7] as u16,
+            side: values[8] as u8,
+            mw: [
+                values[9] as u16,
+                values[10] as u16,
+                values[11] as u16,
+                values[12] as u16,
+                values[13] as u16,
+            ],
+            hour: Hour(values[14] as u8),
         }
     }
-    false
-}
 
-// The map has bit 15, the kind is none, or the map is not that of the kind with the values.
-pub fn map_refused(map: u32, values: Fields) -> bool
-    ensures { result ≡ map_refused map values }
-{
-    let kind = values[0];
-    if has_bit(map, 15) {
-        return true;
+    // The map of a record of the kind with these fields, from the last bit down.
+    #[tactic(auto, using(crate::proofs::Turns::map_next, crate::proofs::Turns::map_fits, crate::proofs::Turns::one_most))]
+    pub fn map(self, kind: u32) -> u32
+        ensures { result ≡ map_for kind self.0 }
+    {
+        let values = self.0;
+        let mut map: u32 = 0;
+        for bit in (0..15).rev() {
+            let field = Field { bit };
+            map = field.is_written(kind, values[bit]) as u32 + 2 * map;
+        }
+        map
     }
-    if !is_kind(kind) {
-        return true;
+
+    // A field that is foreign to the kind is not zero.
+    #[tactic(auto, using(std::proofs::lemmas::Bool::Decides::nat_tests, crate::proofs::Turns::foreign_next, crate::proofs::Turns::foreign_done))]
+    pub fn any_foreign(self, kind: u32) -> bool
+        ensures { result ≡ foreign (kind_at kind) 0 self.0 }
+    {
+        let values = self.0;
+        for (bit, value) in values.iter().enumerate() {
+            let field = Field { bit };
+            if field.is_foreign(kind, *value) {
+                return true;
+            }
+        }
+        false
     }
-    map != map_for(kind, values)
+
+    // The map has bit 15, the kind is none, or the map is not that of these fields.
+    pub fn map_refused(self, map: u32) -> bool
+        ensures { result ≡ map_refused map self.0 }
+    {
+        has_bit(map, 15) || !is_kind(self.kind()) || map != self.map(self.kind())
+    }
 }

@@ -1,8 +1,11 @@
 -- Numbers in decimal, and the line of a reply.
 -- Assumes nothing.
-use Rattle.std.specs.Prelude.{ℕ, zero, suc, ◌+◌, ◌/◌, ◌%◌, ◌≤◌, ◌≡◌, cond, List, [], ◌∷◌, ◌++◌, ltb, length}
-use Rattle.std.proofs.lemmas.List.Edits.{sets}
+use Rattle.std.specs.Prelude.{ℕ, zero, suc, ◌+◌, ◌/◌, ◌%◌, cond, List, [], ◌∷◌, ◌++◌, ltb}
 use Rattle.rules.specs.Calls.{Reply}
+
+-- no line has more bytes
+abbrev pub line_size : ℕ
+line_size = 84
 
 -- the ASCII digits of a number, at most k of them
 unfoldable pub digits_of : ℕ → ℕ → List ℕ
@@ -24,10 +27,3 @@ unfoldable pub line_of : ℕ → Reply → List ℕ
 line_of k a =
     (decimal k ++ (space ∷ []))
     ++ ((decimal a.number ++ (space ∷ [])) ++ ((decimal a.first ++ (space ∷ [])) ++ (decimal a.second ++ (newline ∷ []))))
-
--- a text of at most some bytes is stored at a position; r is the position past it
-pub record Put (most : ℕ) (before : List ℕ) (at : ℕ) (text : List ℕ) (r : ℕ) (after : List ℕ) : Type 0 where
-  pub stored : after ≡ sets before at text
-  pub end : r ≡ at + length text
-  pub few : length text ≤ most
-  pub size : length after ≡ length before

@@ -18,12 +18,12 @@ fn side_mw(book: &Book, i: u32, side: u8, position: usize) -> u32
     book[pairs::side_at(i, side) + position]
 }
 
-// The totals of the pairs before number i, with those of pair i added where it is of the right.
+// The totals of the pairs before number i, with those of pair i added where it is of the right. By position, which also places the pair's cell.
 fn with_share(book: &Book, i: u32, right: u32, side: u8, totals: [u64; 5]) -> [u64; 5]
     requires { (i < pair_limit) × ((side ≤ 1) × Bounded i totals) }
     ensures { SumsWith book.now i right side totals result }
 {
-    if book[cells::PAIRS + 1 + i as usize * 13] != right {
+    if book[cells::PAIRS.row(i)] != right {
         return totals;
     }
     let mut sums = totals;
@@ -33,12 +33,12 @@ fn with_share(book: &Book, i: u32, right: u32, side: u8, totals: [u64; 5]) -> [u
     sums
 }
 
-// A side's totals over all pairs of a right, in the five hours of the session.
+// A side's totals over all pairs of a right, in the five hours of the session. By number: the pairs are cells and no slice of structs.
 fn side_totals(book: &Book, right: u32, side: u8) -> [u64; 5]
     requires { side ≤ 1 }
     ensures { Summed right side (book_of book.now).pairs result }
 {
-    let count = cells::count_in(book, cells::PAIRS, cells::PAIR_LIMIT);
+    let count = cells::PAIRS.count(book);
     let mut totals = [0u64; 5];
     for i in 0..count {
         let next = with_share(book, i, right, side, totals);
@@ -57,13 +57,13 @@ fn mark(held: u32, total: u64) -> u32
     0
 }
 
-// Bit 0 marks the first hour.
+// Bit 0 marks the first hour. By position, which reads the totals and places the right's cell.
 pub fn marks(book: &Book, right: u16, side: u8) -> u32
     requires { (right < counted book.now RIGHTS right_limit) × (side ≤ 1) }
     ensures { result ≡ marks (book_of book.now).rights (book_of book.now).pairs right side }
 {
     let totals = side_totals(book, right as u32, side);
-    let at = cells::RIGHTS + 4 + right as usize * 8;
+    let at = cells::RIGHTS.row(right as u32) + 3;
     let mut bits = 0;
     for k in 0..5 {
         let position = 4 - k;

@@ -1,5 +1,6 @@
 -- A matching that nothing refuses: what it may rely on, and that its stores leave the book of the rules.
 -- Assumes nothing.
+use Rattle.std.specs.Prelude.{Ok}
 use Prim.Native.Nat.{ℕ, ◌+◌}
 use mathlib.Core.Path.{◌≡◌, ap, ◌∙◌}
 use mathlib.Core.List.{List}
@@ -9,11 +10,9 @@ use lib.ListN.{set, length-set}
 use Rattle.rules.specs.Basics.{has}
 use Rattle.rules.specs.Book.{Book, flag}
 use Rattle.rules.specs.Calls.{Match}
-use Rattle.rules.specs.Said.{said}
 use Rattle.rules.specs.Refusals.{order, refuses, unknown, number}
 use Rattle.rules.specs.Effects.{is_timed, clock_after, directions_after, profiles_after, parties_after, offered_after, granted_after, rights_after, pairs_after, matched_after, effect}
 use Rattle.rules.specs.Details.{detail}
-use Rattle.rules.specs.declared.Answer.TheVariants.{Granted}
 use Rattle.rules.proofs.Bools.{or-true}
 use Rattle.rules.proofs.Decisions.{is_granted, fails}
 use Rattle.cells.specs.Layout.{MATCHED}
@@ -33,12 +32,12 @@ effect_is : (b : Book) (t d s : ℕ) → with_clock (with_matched b (set b.match
 unfolding effect is_timed clock_after directions_after profiles_after parties_after offered_after granted_after rights_after pairs_after matched_after
 effect_is b t d s = rw (or-true b.started)
 
-pub match_answers : (b b' : List ℕ) (t d s n : ℕ) → number (book_of b) (Match t d s) ≡ 0 → Placed b t d s n b' → Answers b (Match t d s) (Granted n) b'
+pub match_answers : (b b' : List ℕ) (t d s n : ℕ) → number (book_of b) (Match t d s) ≡ 0 → Placed b t d s n b' → Answers b (Match t d s) (Ok n) b'
 unfolding detail
 match_answers b b' t d s n g p =
     let u = p.cells.count in
     let k = match_there b t d s g in
-    granted b b' (Match t d s) (Granted n) g (ap (λ (x : ℕ). said (Granted x)) p.count_is)
+    granted b b' (Match t d s) n g p.count_is
     (ap book_of p.cells_are
     ∙ clock_set (set b (MATCHED + flag d s) 1) t (length-set b (MATCHED + flag d s) 1 ∙ u)
     ∙ ap (λ (x : Book). with_clock x t) (matched_set b (flag d s) 1 (omega arith) u)

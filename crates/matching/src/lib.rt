@@ -11,9 +11,8 @@ ghost use Rattle.cells.specs.View.{book_of, right_at};
 ghost use Rattle.answers.specs.Promises.{Judged, Answers};
 ghost use Rattle.matching.specs.Work.{is_of, one_of, Placed};
 
-use answers::Verdict;
 use cells::Book;
-use rules::{Answer, Session, Timing};
+use rules::{Answer, Refusal, Session, Timing};
 
 // ---- tests
 
@@ -29,40 +28,36 @@ fn match_unknown(book: &Book, direction: u8, session: Session) -> bool
     if answers::direction_unknown(book, direction) {
         return true;
     }
-    let hours = cells::hours(book);
-    let model = tables::model_of(book, direction);
-    !day::session_there(hours, model, session)
+    let model = tables::direction_at(book, direction).model;
+    !cells::day(book).session(model, session).is_there()
 }
 
 // Where the time stands to the session's matching.
+#[tactic(auto, unfolding(cells::specs::View::book_of))]
 fn timing(book: &Book, model: u32, session: Session, time: u32) -> Timing
     ensures { result ≡ matching_timing (book_of book.now).day.hours (book_of book.now).day.weekday model session.0 time }
 {
-    let hours = cells::hours(book);
-    let weekday = cells::weekday(book);
-    windows::matching_timing(hours, weekday, model, session, time)
+    windows::matching_timing(cells::day(book).session(model, session), time)
 }
 
-fn match_verdict(book: &Book, time: u32, direction: u8, session: Session) -> Verdict
+fn match_verdict(book: &Book, time: u32, direction: u8, session: Session) -> Result<(), Refusal>
     ensures { Judged (book_of book.now) (Match time direction session.0) result }
 {
     if match_field(time) {
-        return Verdict::No(Answer::Field);
+        return Err(Refusal::Field);
     }
     if answers::before_clock(book, time) {
-        return Verdict::No(Answer::Clock);
+        return Err(Refusal::Clock);
     }
     if match_unknown(book, direction, session) {
-        return Verdict::No(Answer::Unknown);
+        return Err(Refusal::Unknown);
     }
-    let model = tables::model_of(book, direction);
-    if let Verdict::No(answer) = answers::window_verdict(timing(book, model, session, time)) {
-        return Verdict::No(answer);
-    }
+    let model = tables::direction_at(book, direction).model;
+    answers::window_verdict(timing(book, model, session, time))?;
     if tables::is_matched(book, direction, session) {
-        return Verdict::No(Answer::Cycle);
+        return Err(Refusal::Cycle);
     }
-    Verdict::Clear
+    Ok(())
 }
 
 // ---- the count of rights
@@ -71,11 +66,8 @@ fn is_right_of_session(book: &Book, i: u32, direction: u8, session: Session) -> 
     requires { i < right_limit }
     ensures { result ≡ is_of direction session.0 (right_at book.now i) }
 {
-    if tables::right_direction(book, i as u16) != direction {
-        return false;
-    }
-    let stands = tables::right_session(book, i as u16);
-    stands.0 == session.0
+    let key = tables::right_key(book, i as u16);
+    key.direction == direction && key.session == session
 }
 
 // 1 for a right of the session, else 0.
@@ -89,11 +81,11 @@ fn count_right(book: &Book, i: u32, direction: u8, session: Session) -> u32
     0
 }
 
-// All rights of a direction and session, nominated or not.
+// All rights of a direction and session, nominated or not. By number: the rights are cells and no slice of structs.
 fn count_rights(book: &Book, direction: u8, session: Session) -> u32
     ensures { result ≡ count_rights direction session.0 (book_of book.now).rights }
 {
-    let rights = cells::count_in(book, cells::RIGHTS, cells::RIGHT_LIMIT);
+    let rights = cells::RIGHTS.count(book);
     let mut count = 0;
     for i in 0..rights {
         count += count_right(book, i, direction, session);
@@ -118,9 +110,6 @@ fn place_match(book: &mut Book, time: u32, direction: u8, session: Session) -> u
 pub fn match_session(book: &mut Book, time: u32, direction: u8, session: Session) -> Answer
     ensures { Answers book.old (Match time direction session.0) result book.new }
 {
-    let verdict = match_verdict(book, time, direction, session);
-    match verdict {
-        Verdict::No(answer) => answer,
-        Verdict::Clear => Answer::Granted(place_match(book, time, direction, session)),
-    }
+    match_verdict(book, time, direction, session)?;
+    Ok(place_match(book, time, direction, session))
 }

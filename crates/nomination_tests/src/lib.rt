@@ -21,7 +21,7 @@ fn model_there(book: &Book, direction: u8) -> u32
     if answers::direction_unknown(book, direction) {
         return 0;
     }
-    tables::model_of(book, direction)
+    tables::direction_at(book, direction).model
 }
 
 // The operator of a side.
@@ -31,18 +31,18 @@ fn operator_there(book: &Book, direction: u8, side: u8) -> u32
     if answers::direction_unknown(book, direction) {
         return 0;
     }
+    let there = tables::direction_at(book, direction);
     if side != 0 {
-        return tables::into_of(book, direction);
+        return there.into;
     }
-    tables::out_of(book, direction)
+    there.out
 }
 
 fn right_model(book: &Book, right: u16) -> u32
     requires { right < counted book.now RIGHTS right_limit }
     ensures { result ≡ model_of (book_of book.now) (right_direction (book_of book.now) right) }
 {
-    let direction = tables::right_direction(book, right);
-    model_there(book, direction)
+    model_there(book, tables::right_key(book, right).direction)
 }
 
 // ---- tests
@@ -66,7 +66,7 @@ pub fn nomination_unknown(book: &Book, sender: u8, other: u8, right: u16) -> boo
     if answers::party_unknown(book, other) {
         return true;
     }
-    cells::count_in(book, cells::RIGHTS, cells::RIGHT_LIMIT) <= right as u32
+    cells::RIGHTS.count(book) <= right as u32
 }
 
 // Where the time stands to the nominations of the right's session.
@@ -74,11 +74,9 @@ pub fn timing(book: &Book, right: u16, time: u32) -> Timing
     requires { right < counted book.now RIGHTS right_limit }
     ensures { result ≡ nomination_timing (book_of book.now).day.hours (book_of book.now).day.weekday (model_of (book_of book.now) (right_direction (book_of book.now) right)) (right_session (book_of book.now) right) time }
 {
-    let hours = cells::hours(book);
-    let weekday = cells::weekday(book);
     let model = right_model(book, right);
-    let session = tables::right_session(book, right);
-    windows::nomination_timing(hours, weekday, model, session, time)
+    let session = tables::right_key(book, right).session;
+    windows::nomination_timing(cells::day(book).session(model, session), time)
 }
 
 // MW for an hour that the right's session lacks.
@@ -86,10 +84,9 @@ pub fn lacking_hours(book: &Book, right: u16, mw: [u16; 5]) -> bool
     requires { right < counted book.now RIGHTS right_limit }
     ensures { result ≡ hours_lacking (book_of book.now) (right_direction (book_of book.now) right) (right_session (book_of book.now) right) mw }
 {
-    let hours = cells::hours(book);
     let model = right_model(book, right);
-    let session = tables::right_session(book, right);
-    let count = day::hours_in(hours, model, session);
+    let session = tables::right_key(book, right).session;
+    let count = cells::day(book).session(model, session).hours();
     capacity::any_above(0, mw, count)
 }
 
@@ -98,10 +95,10 @@ pub fn no_access(book: &Book, sender: u8, right: u16, side: u8) -> bool
     requires { (sender < counted book.now PARTIES party_limit) × (right < counted book.now RIGHTS right_limit) }
     ensures { result ≡ not (bit (party (book_of book.now).parties sender).access (operator_of (book_of book.now) (right_direction (book_of book.now) right) side)) }
 {
-    let map = book[cells::PARTIES + 17 + sender as usize * 17];
-    let direction = tables::right_direction(book, right);
+    let map = book[cells::PARTIES.row(sender as u32) + 16];
+    let direction = tables::right_key(book, right).direction;
     let operator = operator_there(book, direction, side);
-    !answers::has_access(map, operator)
+    !rules::has_bit(map, operator)
 }
 
 // Neither party holds the right.
@@ -109,7 +106,7 @@ pub fn not_owner(book: &Book, sender: u8, other: u8, right: u16) -> bool
     requires { right < counted book.now RIGHTS right_limit }
     ensures { result ≡ not (eqb (right_holder (book_of book.now) right) sender || eqb (right_holder (book_of book.now) right) other) }
 {
-    let holder = tables::right_holder(book, right);
+    let holder = tables::right_key(book, right).holder;
     if holder == sender {
         return false;
     }

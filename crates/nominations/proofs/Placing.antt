@@ -1,5 +1,6 @@
 -- A nomination that nothing refuses: what it may rely on, and that its stores leave the book of the rules.
 -- Assumes nothing.
+use Rattle.std.specs.Prelude.{Ok}
 use Prim.Native.Nat.{ℕ, ◌+◌, ◌*◌, ◌≤◌, ◌<◌}
 use mathlib.Core.Path.{◌≡◌, ap, ◌∙◌}
 use mathlib.Core.Bool.{◌||◌}
@@ -13,12 +14,10 @@ use Rattle.rules.specs.Basics.{has, any_above}
 use Rattle.rules.specs.Windows.{latest}
 use Rattle.rules.specs.Book.{Book, Pair, right_limit}
 use Rattle.rules.specs.Calls.{Nominate}
-use Rattle.rules.specs.Said.{said}
 use Rattle.rules.specs.Nominations.{out_of, into_of, with_pair, marks}
 use Rattle.rules.specs.Refusals.{order, refuses, field, unknown, number}
 use Rattle.rules.specs.Effects.{is_timed, clock_after, directions_after, profiles_after, parties_after, offered_after, granted_after, rights_after, pairs_after, matched_after, effect}
 use Rattle.rules.specs.Details.{detail}
-use Rattle.rules.specs.declared.Answer.TheVariants.{Granted}
 use Rattle.rules.proofs.Bools.{or_left, or_right, or-true}
 use Rattle.rules.proofs.Decisions.{is_granted, fails}
 use Rattle.cells.specs.Layout.{RIGHTS, PAIRS}
@@ -85,6 +84,6 @@ module _ (b : List ℕ) (t p o r side : ℕ) (mw : List ℕ) (ok : Ready b r sid
       }
 
 pub nomination_answers : (b b' : List ℕ) (t p o r side : ℕ) (mw : List ℕ) (n : ℕ) → number (book_of b) (Nominate t p o r side mw) ≡ 0 → Placed b t p o r side mw n b'
-    → Answers b (Nominate t p o r side mw) (Granted n) b'
+    → Answers b (Nominate t p o r side mw) (Ok n) b'
 nomination_answers b b' t p o r side mw n g w =
-    granted b b' (Nominate t p o r side mw) (Granted n) g (ap (λ (x : ℕ). said (Granted x)) w.number_is) w.book_is
+    granted b b' (Nominate t p o r side mw) n g w.number_is w.book_is

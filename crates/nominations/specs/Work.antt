@@ -1,30 +1,27 @@
 -- What the private workers of a nomination find and leave.
 -- Assumes nothing.
-use Rattle.std.specs.Prelude.{ℕ, ◌≡◌, List}
+use Rattle.std.specs.Prelude.{ℕ, ◌≡◌, List, Option, Result, Ok, Err}
+use Rattle.rules.specs.declared.Refusal.{Refusal}
 use Rattle.rules.specs.Calls.{Nominate}
 use Rattle.rules.specs.Nominations.{out_of, into_of}
 use Rattle.rules.specs.Refusals.{number}
 use Rattle.rules.specs.Effects.{effect}
 use Rattle.rules.specs.Details.{detail}
 use Rattle.cells.specs.View.{book_of}
-use Rattle.cells.specs.declared.Found.{Found}
 use Rattle.pairs.specs.Work.{Enters}
-use Rattle.answers.specs.declared.Verdict.TheVariants.{No as Refused}
-use Rattle.answers.specs.Promises.{Judged}
-use Rattle.nominations.specs.declared.NominationVerdict.{NominationVerdict}
-use Rattle.nominations.specs.declared.NominationVerdict.TheVariants.{Clear, No}
+use Rattle.answers.specs.Promises.{Refused}
 
 -- ---- the verdict
 
 -- nothing is against the nomination, and this was found of its pair
-pub record Cleared (b : List ℕ) (time sender other r side : ℕ) (mw : List ℕ) (f : Found) : Type 0 where
+pub record Cleared (b : List ℕ) (time sender other r side : ℕ) (mw : List ℕ) (f : Option ℕ) : Type 0 where
   pub clear : number (book_of b) (Nominate time sender other r side mw) ≡ 0
   pub enters : Enters b r (out_of sender other side) (into_of sender other side) f
 
 -- what the tests of a nomination find is the number of the rules
-abbrev pub JudgedNomination : List ℕ → ℕ → ℕ → ℕ → ℕ → ℕ → List ℕ → NominationVerdict → Type 0
-JudgedNomination b time sender other r side mw (Clear f) = Cleared b time sender other r side mw f
-JudgedNomination b time sender other r side mw (No a) = Judged (book_of b) (Nominate time sender other r side mw) (Refused a)
+abbrev pub JudgedNomination : List ℕ → ℕ → ℕ → ℕ → ℕ → ℕ → List ℕ → Result (Option ℕ) Refusal → Type 0
+JudgedNomination b time sender other r side mw (Ok f) = Cleared b time sender other r side mw f
+JudgedNomination b time sender other r side mw (Err e) = Refused (book_of b) (Nominate time sender other r side mw) e
 
 -- ---- the granted nomination
 

@@ -8,16 +8,9 @@ ghost use Rattle.pairs.specs.Search.{standing_pair};
 ghost use Rattle.answers.specs.Promises.{Answers};
 ghost use Rattle.nominations.specs.Work.{Cleared, JudgedNomination, Placed};
 
-use answers::Verdict;
-use cells::{Book, Found};
-use rules::Answer;
-
-// What the tests of a nomination find: nothing against it, with what the search for its pair found, or the refusal.
-#[derive(Clone, Copy)]
-enum NominationVerdict {
-    Clear(Found),
-    No(Answer),
-}
+use cells::Book;
+use pairs::PairKey;
+use rules::{Answer, Refusal};
 
 // ---- the parties of a nomination
 
@@ -39,17 +32,28 @@ fn in_party(sender: u8, other: u8, side: u8) -> u32
     sender as u32
 }
 
+fn key_of(sender: u8, other: u8, right: u16, side: u8) -> PairKey
+    ensures right { result.right ≡ right }
+    ensures out { result.out ≡ out_of sender other side }
+    ensures into { result.into ≡ into_of sender other side }
+{
+    PairKey {
+        right: right as u32,
+        out: out_party(sender, other, side),
+        into: in_party(sender, other, side),
+    }
+}
+
 // The search for the pair of a nomination.
-fn nominated_pair(book: &Book, sender: u8, other: u8, right: u16, side: u8) -> Found
+fn nominated_pair(book: &Book, sender: u8, other: u8, right: u16, side: u8) -> Option<u32>
     ensures { result ≡ standing_pair book.now right (out_of sender other side) (into_of sender other side) }
 {
-    let out = out_party(sender, other, side);
-    let into = in_party(sender, other, side);
-    pairs::standing_pair(book, right as u32, out, into)
+    pairs::standing_pair(book, key_of(sender, other, right, side))
 }
 
 // ---- the verdict
 
+// Where nothing is against the nomination, what the search for its pair found.
 fn nomination_verdict(
     book: &Book,
     time: u32,
@@ -58,36 +62,33 @@ fn nomination_verdict(
     right: u16,
     side: u8,
     mw: [u16; 5],
-) -> NominationVerdict
+) -> Result<Option<u32>, Refusal>
     ensures { JudgedNomination book.now time sender other right side mw result }
 {
     if nomination_tests::nomination_field(time, side, mw) {
-        return NominationVerdict::No(Answer::Field);
+        return Err(Refusal::Field);
     }
     if answers::before_clock(book, time) {
-        return NominationVerdict::No(Answer::Clock);
+        return Err(Refusal::Clock);
     }
     if nomination_tests::nomination_unknown(book, sender, other, right) {
-        return NominationVerdict::No(Answer::Unknown);
+        return Err(Refusal::Unknown);
     }
-    let timing = nomination_tests::timing(book, right, time);
-    if let Verdict::No(answer) = answers::window_verdict(timing) {
-        return NominationVerdict::No(answer);
-    }
+    answers::window_verdict(nomination_tests::timing(book, right, time))?;
     if nomination_tests::lacking_hours(book, right, mw) {
-        return NominationVerdict::No(Answer::Hours);
+        return Err(Refusal::Hours);
     }
     if nomination_tests::no_access(book, sender, right, side) {
-        return NominationVerdict::No(Answer::Access);
+        return Err(Refusal::Access);
     }
     if nomination_tests::not_owner(book, sender, other, right) {
-        return NominationVerdict::No(Answer::Owner);
+        return Err(Refusal::Owner);
     }
     let standing = nominated_pair(book, sender, other, right, side);
     if pairs::pairs_full(book, standing) {
-        return NominationVerdict::No(Answer::Full);
+        return Err(Refusal::Full);
     }
-    NominationVerdict::Clear(standing)
+    Ok(standing)
 }
 
 // ---- a granted nomination
@@ -101,14 +102,12 @@ fn place_nomination(
     right: u16,
     side: u8,
     mw: [u16; 5],
-    found: Found,
+    found: Option<u32>,
 ) -> u32
     requires { Cleared book.old time sender other right side mw found }
     ensures { Placed book.old time sender other right side mw result book.new }
 {
-    let out = out_party(sender, other, side);
-    let into = in_party(sender, other, side);
-    let pair = pairs::take_pair(book, right as u32, out, into, found);
+    let pair = pairs::take_pair(book, key_of(sender, other, right, side), found);
     pairs::write_side(book, pair, side, mw);
     stores::set_clock(book, time);
     marks::marks(book, right, side)
@@ -125,11 +124,6 @@ pub fn nominate(
 ) -> Answer
     ensures { Answers book.old (Nominate time sender other right side mw) result book.new }
 {
-    let verdict = nomination_verdict(book, time, sender, other, right, side, mw);
-    match verdict {
-        NominationVerdict::No(answer) => answer,
-        NominationVerdict::Clear(found) => {
-            Answer::Granted(place_nomination(book, time, sender, other, right, side, mw, found))
-        }
-    }
+    let found = nomination_verdict(book, time, sender, other, right, side, mw)?;
+    Ok(place_nomination(book, time, sender, other, right, side, mw, found))
 }

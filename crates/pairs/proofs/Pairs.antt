@@ -1,5 +1,6 @@
 -- The test for a full table is 13 of the rules, and the pair of a granted nomination, found or new, is that of the rules.
 -- Assumes nothing.
+use Rattle.std.specs.Prelude.{Option, Some, None}
 use Prim.Native.Nat.{ℕ, ◌+◌, ◌<◌}
 use mathlib.Core.Path.{◌≡◌, refl, sym, ap, ◌∙◌}
 use mathlib.Core.Bool.{Bool, false, ◌&&◌, not, and-true, and-false}
@@ -14,8 +15,6 @@ use Rattle.rules.specs.Nominations.{is_pair_of, pair_taken, empty_pair, with_sid
 use Rattle.cells.specs.Layout.{CELLS, PAIRS}
 use Rattle.cells.specs.View.{counted, pair_at, book_of}
 use Rattle.cells.specs.Updates.{with_pairs}
-use Rattle.cells.specs.declared.Found.{Found}
-use Rattle.cells.specs.declared.Found.TheVariants.{At, Nothing}
 use Rattle.stores.proofs.Firsts.{changed_there, changed_new}
 use Rattle.stores.proofs.Tables.{length-row}
 use Rattle.stores.proofs.Pairs.{with_pair_lem, pair_more}
@@ -26,25 +25,25 @@ use Rattle.pairs.proofs.Searches.{standing_at, standing_none}
 
 -- ---- room for a new pair
 
-pub full_at : (b : List ℕ) (n : ℕ) (f : Found) → n ≡ counted b PAIRS pair_limit → f ≡ Nothing → leb pair_limit n ≡ (leb pair_limit (length (book_of b).pairs) && is_missing f)
-full_at b n f e m = rw (pair_count b, e, m) (sym (and-true _))
+pub full_at : (b : List ℕ) {x : Bool} (f : Option ℕ) → x ≡ leb pair_limit (counted b PAIRS pair_limit) → f ≡ None → x ≡ (leb pair_limit (length (book_of b).pairs) && is_missing f)
+full_at b f e m = rw (pair_count b, e, m) (sym (and-true _))
 
-pub there_is_one : (b : List ℕ) (k : ℕ) (f : Found) → f ≡ At k → false ≡ (leb pair_limit (length (book_of b).pairs) && is_missing f)
+pub there_is_one : (b : List ℕ) (k : ℕ) (f : Option ℕ) → f ≡ Some k → false ≡ (leb pair_limit (length (book_of b).pairs) && is_missing f)
 there_is_one b k f m = rw m (sym (and-false (leb pair_limit (length (book_of b).pairs))))
 
-missing_is : (b : List ℕ) (r o i : ℕ) (f : Found) → f ≡ standing_pair b r o i → is_missing f ≡ not (pair_taken r o i (book_of b).pairs)
-missing_is b r o i (At k) e = rw (standing_at b r o i k (sym e)).there
-missing_is b r o i Nothing e = rw (standing_none b r o i (sym e)).none
+missing_is : (b : List ℕ) (r o i : ℕ) (f : Option ℕ) → f ≡ standing_pair b r o i → is_missing f ≡ not (pair_taken r o i (book_of b).pairs)
+missing_is b r o i (Some k) e = rw (standing_at b r o i k (sym e)).there
+missing_is b r o i None e = rw (standing_none b r o i (sym e)).none
 
 -- the test of what was found is that of the rules
-pub full_is : (b : List ℕ) (r o i : ℕ) {f : Found} {x : Bool} → f ≡ standing_pair b r o i → (leb pair_limit (length (book_of b).pairs) && is_missing f) ≡ x
+pub full_is : (b : List ℕ) (r o i : ℕ) {f : Option ℕ} {x : Bool} → f ≡ standing_pair b r o i → (leb pair_limit (length (book_of b).pairs) && is_missing f) ≡ x
     → (leb pair_limit (length (book_of b).pairs) && not (pair_taken r o i (book_of b).pairs)) ≡ x
 full_is b r o i {f} e h = rw (← missing_is b r o i f e) h
 
 -- ---- the pair of a granted nomination
 
 -- one that the search found
-pub found_there : (b : List ℕ) (r o i k : ℕ) → length b ≡ CELLS → standing_pair b r o i ≡ At k → PairThere b r o i k b
+pub found_there : (b : List ℕ) (r o i k : ℕ) → length b ≡ CELLS → standing_pair b r o i ≡ Some k → PairThere b r o i k b
 found_there b r o i k u e =
     let f = standing_at b r o i k e in
     let p = f.place_is in
@@ -59,10 +58,10 @@ found_there b r o i k u e =
     }
 
 -- none was found, and there is room for one
-pub room_left : {b : List ℕ} {r o i : ℕ} {f : Found} → Enters b r o i f → f ≡ Nothing → counted b PAIRS pair_limit < pair_limit
+pub room_left : {b : List ℕ} {r o i : ℕ} {f : Option ℕ} → Enters b r o i f → f ≡ None → counted b PAIRS pair_limit < pair_limit
 room_left {b} {f = f} k e = rw (pair_count b) at (has_room (length (book_of b).pairs) pair_limit (is_missing f) k.free (rw e))
 
-module _ (b : List ℕ) (r o i : ℕ) (e : standing_pair b r o i ≡ Nothing) where
+module _ (b : List ℕ) (r o i : ℕ) (e : standing_pair b r o i ≡ None) where
   -- a new one
   module _ (n : ℕ) (b' : List ℕ) (l : counted b PAIRS pair_limit < pair_limit) (w : NewPair b r o i n b') where
     here : n ≡ length (book_of b).pairs

@@ -1,14 +1,13 @@
 -- The search for a pair is the rules' search.
 -- Assumes nothing.
+use Rattle.std.specs.Prelude.{Option, Some, None}
 use Prim.Native.Nat.{ℕ, ◌+◌, ◌*◌, ◌≤◌, ◌<◌}
 use mathlib.Core.Path.{◌≡◌, sym, ◌∙◌}
-use mathlib.Core.Logic.{◌≢◌}
 use mathlib.Core.Bool.{true, false, ◌&&◌}
 use mathlib.Core.List.{List}
 use native.Mathlib.Omega.{arith}
-use lib.Dec.{eqb}
 use lib.ListN.{length}
-use borrow.Author.Tests.{lt-ltb, le-ltb, eq-eqb, ne_eqb}
+use borrow.Author.Tests.{lt-ltb, le-ltb}
 use Rattle.rules.specs.Book.{pair_limit}
 use Rattle.rules.specs.Nominations.{is_pair_of, pair_taken, pair_of, empty_pair}
 use Rattle.cells.specs.Layout.{PAIRS}
@@ -16,7 +15,6 @@ use Rattle.cells.specs.View.{cell, counted, pair_at, pairs_in, book_of}
 use Rattle.stores.proofs.Firsts.{place_of, some_is, first_at, first_none}
 use Rattle.cells.proofs.Views.{pair_count, pair_at_lem}
 use Rattle.stores.proofs.Pairs.{pair_taken_lem, pair_from}
-use Rattle.cells.specs.declared.Found.TheVariants.{At, Nothing}
 use Rattle.pairs.specs.Search.{standing_pair}
 
 -- where the pair stands, or the length of the table
@@ -24,11 +22,11 @@ abbrev pub place : List ℕ → ℕ → ℕ → ℕ → ℕ
 place b r o i = place_of (is_pair_of r o i) (book_of b).pairs
 
 -- the number and the place of what was found
-found_at : (b : List ℕ) (r o i k : ℕ) → standing_pair b r o i ≡ At k → (k ≡ place b r o i) × (k < counted b PAIRS pair_limit)
+found_at : (b : List ℕ) (r o i k : ℕ) → standing_pair b r o i ≡ Some k → (k ≡ place b r o i) × (k < counted b PAIRS pair_limit)
 unfolding standing_pair book_of pairs_in
 found_at b r o i k e = first_at (is_pair_of r o i) (pair_at b) (counted b PAIRS pair_limit) k e
 
-found_none : (b : List ℕ) (r o i : ℕ) → standing_pair b r o i ≡ Nothing → counted b PAIRS pair_limit ≤ place b r o i
+found_none : (b : List ℕ) (r o i : ℕ) → standing_pair b r o i ≡ None → counted b PAIRS pair_limit ≤ place b r o i
 unfolding standing_pair book_of pairs_in
 found_none b r o i e = first_none (is_pair_of r o i) (pair_at b) (counted b PAIRS pair_limit) e
 
@@ -40,7 +38,7 @@ pub record Standing (b : List ℕ) (r o i k : ℕ) : Type 0 where
   pub pair_is : pair_of r o i (book_of b).pairs ≡ pair_at b k
   pub place_is : place b r o i ≡ k
 
-pub standing_at : (b : List ℕ) (r o i k : ℕ) → standing_pair b r o i ≡ At k → Standing b r o i k
+pub standing_at : (b : List ℕ) (r o i k : ℕ) → standing_pair b r o i ≡ Some k → Standing b r o i k
 standing_at b r o i k e =
     let f = found_at b r o i k e in
     let p : place b r o i ≡ k = sym f.0 in
@@ -57,32 +55,10 @@ pub record Lacking (b : List ℕ) (r o i : ℕ) : Type 0 where
   pub none : pair_taken r o i (book_of b).pairs ≡ false
   pub past : length (book_of b).pairs ≤ place b r o i
 
-pub standing_none : (b : List ℕ) (r o i : ℕ) → standing_pair b r o i ≡ Nothing → Lacking b r o i
+pub standing_none : (b : List ℕ) (r o i : ℕ) → standing_pair b r o i ≡ None → Lacking b r o i
 standing_none b r o i e =
     let p : length (book_of b).pairs ≤ place b r o i = rw (pair_count b) (found_none b r o i e) in
     record {
       none = pair_taken_lem r o i (book_of b).pairs ∙ some_is (is_pair_of r o i) (book_of b).pairs ∙ le-ltb (place b r o i) (length (book_of b).pairs) p;
       past = p;
     }
-
--- ---- the test of a row, cell by cell
-
-module _ (b : List ℕ) (k r o i : ℕ) where
-  abbrev at : ℕ
-  at = PAIRS + 1 + k * 13
-
-  cell_by_cell : is_pair_of r o i (pair_at b k) ≡ (eqb (cell b at) r && eqb (cell b (at + 1)) o && eqb (cell b (at + 2)) i)
-  unfolding is_pair_of pair_at
-  cell_by_cell =
-      let two : PAIRS + 2 + k * 13 ≡ at + 1 = omega arith in
-      let three : PAIRS + 3 + k * 13 ≡ at + 2 = omega arith in
-      rw (two, three)
-
-  pub other_right : cell b at ≢ r → false ≡ is_pair_of r o i (pair_at b k)
-  other_right e = rw (cell_by_cell, ne_eqb (cell b at) r e)
-
-  pub other_out : cell b at ≡ r → cell b (at + 1) ≢ o → false ≡ is_pair_of r o i (pair_at b k)
-  other_out p e = rw (cell_by_cell, eq-eqb (cell b at) r p, ne_eqb (cell b (at + 1)) o e)
-
-  pub last_test : cell b at ≡ r → cell b (at + 1) ≡ o → eqb (cell b (at + 2)) i ≡ is_pair_of r o i (pair_at b k)
-  last_test p q = rw (cell_by_cell, eq-eqb (cell b at) r p, eq-eqb (cell b (at + 1)) o q)

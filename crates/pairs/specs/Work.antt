@@ -1,6 +1,6 @@
 -- What is found of the pair of a nomination, and what a granted one leaves in the table of pairs.
 -- Assumes nothing.
-use Rattle.std.specs.Prelude.{ℕ, ◌<◌, ◌≡◌, Bool, true, false, ◌&&◌, List, ◌∷◌, ◌++◌, leb, length, set}
+use Rattle.std.specs.Prelude.{Option, Some, None, ℕ, ◌<◌, ◌≡◌, Bool, true, false, ◌&&◌, List, ◌∷◌, ◌++◌, leb, length, set}
 use Rattle.rules.specs.Basics.{no_mw}
 use Rattle.rules.specs.Book.{pair_limit}
 use Rattle.rules.specs.Nominations.{with_side, with_pair}
@@ -8,17 +8,15 @@ use Rattle.cells.specs.Layout.{CELLS, PAIRS}
 use Rattle.cells.specs.View.{counted, pair_at, book_of, Cells}
 use Rattle.stores.specs.Stores.{with_row}
 use Rattle.cells.specs.Updates.{with_pairs}
-use Rattle.cells.specs.declared.Found.{Found}
-use Rattle.cells.specs.declared.Found.TheVariants.{At, Nothing}
 use Rattle.pairs.specs.Search.{standing_pair}
 
 -- no pair was found
-abbrev pub is_missing : Found → Bool
-is_missing (At k) = false
-is_missing Nothing = true
+abbrev pub is_missing : Option ℕ → Bool
+is_missing (Some k) = false
+is_missing None = true
 
 -- what the search for the pair found, and 13 does not refuse
-pub record Enters (b : List ℕ) (r o i : ℕ) (f : Found) : Type 0 where
+pub record Enters (b : List ℕ) (r o i : ℕ) (f : Option ℕ) : Type 0 where
   pub found_is : f ≡ standing_pair b r o i
   pub free : (leb pair_limit (length (book_of b).pairs) && is_missing f) ≡ false
 

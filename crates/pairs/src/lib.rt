@@ -10,70 +10,77 @@ ghost use Rattle.cells.specs.View.{book_of, counted, pair_at};
 ghost use Rattle.pairs.specs.Search.{standing_pair};
 ghost use Rattle.pairs.specs.Work.{is_missing, Enters, NewPair, PairThere};
 
-use cells::{Book, Found};
+use cells::Book;
+
+// What tells a pair from others: its right, out party and in party.
+#[derive(Clone, Copy, PartialEq, Eq)]
+pub struct PairKey {
+    pub right: u32,
+    pub out: u32,
+    pub into: u32,
+}
 
 // ---- the search
 
-// The pair number i is that of a right, an out party and an in party.
-fn same_pair(book: &Book, i: u32, right: u32, out: u32, into: u32) -> bool
+fn pair_key(book: &Book, i: u32) -> PairKey
     requires { i < pair_limit }
-    ensures { result ≡ is_pair_of right out into (pair_at book.now i) }
+    ensures right { result.right ≡ (pair_at book.now i).right }
+    ensures out { result.out ≡ (pair_at book.now i).out }
+    ensures into { result.into ≡ (pair_at book.now i).into }
 {
-    let at = cells::PAIRS + 1 + i as usize * 13;
-    if book[at] != right {
-        return false;
+    let row = cells::PAIRS.row(i);
+    PairKey {
+        right: book[row],
+        out: book[row + 1],
+        into: book[row + 2],
     }
-    if book[at + 1] != out {
-        return false;
-    }
-    book[at + 2] == into
 }
 
-// The first pair of a right, an out party and an in party.
-pub fn standing_pair(book: &Book, right: u32, out: u32, into: u32) -> Found
-    ensures { result ≡ standing_pair book.now right out into }
+fn has_key(book: &Book, i: u32, key: PairKey) -> bool
+    requires { i < pair_limit }
+    ensures { result ≡ is_pair_of key.right key.out key.into (pair_at book.now i) }
 {
-    let count = cells::count_in(book, cells::PAIRS, cells::PAIR_LIMIT);
-    for i in 0..count {
-        if same_pair(book, i, right, out, into) {
-            return Found::At(i);
-        }
-    }
-    Found::Nothing
+    pair_key(book, i) == key
+}
+
+// The first pair with the key.
+pub fn standing_pair(book: &Book, key: PairKey) -> Option<u32>
+    ensures { result ≡ standing_pair book.now key.right key.out key.into }
+{
+    let count = cells::PAIRS.count(book);
+    (0..count).find(|&i| has_key(book, i, key))
 }
 
 // A new pair is needed, and the table is full.
-pub fn pairs_full(book: &Book, found: Found) -> bool
+pub fn pairs_full(book: &Book, found: Option<u32>) -> bool
     ensures { result ≡ (leb pair_limit (length (book_of book.now).pairs) && is_missing found) }
 {
-    let Found::At(_) = found else {
-        return cells::PAIR_LIMIT <= cells::count_in(book, cells::PAIRS, cells::PAIR_LIMIT);
+    let None = found else {
+        return false;
     };
-    false
+    cells::PAIRS.is_full(book)
 }
 
 // ---- the pair of a granted nomination
 
 // A new pair with no MW: its number.
-fn open_pair(book: &mut Book, right: u32, out: u32, into: u32) -> u32
+fn open_pair(book: &mut Book, key: PairKey) -> u32
     requires { counted book.old PAIRS pair_limit < pair_limit }
-    ensures { NewPair book.old right out into result book.new }
+    ensures { NewPair book.old key.right key.out key.into result book.new }
 {
     cells::cells_in(book);
-    let number = cells::count_in(book, cells::PAIRS, cells::PAIR_LIMIT);
-    let row = [right, out, into, 0, 0, 0, 0, 0, 0, 0, 0, 0, 0];
-    stores::add_row(book, cells::PAIRS, number, &row);
-    number
+    let row = [key.right, key.out, key.into, 0, 0, 0, 0, 0, 0, 0, 0, 0, 0];
+    stores::add_row(book, cells::PAIRS, &row)
 }
 
 // The number of the pair that the verdict found, or of a new one.
-pub fn take_pair(book: &mut Book, right: u32, out: u32, into: u32, found: Found) -> u32
-    requires { Enters book.old right out into found }
-    ensures { PairThere book.old right out into result book.new }
+pub fn take_pair(book: &mut Book, key: PairKey, found: Option<u32>) -> u32
+    requires { Enters book.old key.right key.out key.into found }
+    ensures { PairThere book.old key.right key.out key.into result book.new }
 {
     cells::cells_in(book);
-    let Found::At(number) = found else {
-        return open_pair(book, right, out, into);
+    let Some(number) = found else {
+        return open_pair(book, key);
     };
     number
 }
@@ -85,10 +92,10 @@ pub fn side_at(pair: u32, side: u8) -> usize
     requires { (pair < pair_limit) × (side ≤ 1) }
     ensures { result ≡ PAIRS + 4 + pair * 13 + 5 * side }
 {
-    cells::PAIRS + 4 + pair as usize * 13 + 5 * side as usize
+    cells::PAIRS.row(pair) + 3 + 5 * side as usize
 }
 
-// The five MW of one side of a pair.
+// The five MW of one side of a pair. By position: MW of 16 bits go into cells of 32, so that no slice can be copied.
 pub fn write_side(book: &mut Book, pair: u32, side: u8, mw: [u16; 5])
     requires { (pair < pair_limit) × (side ≤ 1) }
     ensures { book.new ≡ sets book.old (PAIRS + 4 + pair * 13 + 5 * side) mw }

@@ -1,4 +1,4 @@
--- The test for a code that is taken, as the rules say it over the parties and as the loops find it over the cells.
+-- The test for a party that has a code, as the loop finds it over the cells.
 -- Assumes nothing.
 use Prim.Native.Nat.{ℕ, zero, suc, ◌+◌, ◌*◌, ◌≤◌, ◌<◌}
 use mathlib.Core.Path.{◌≡◌, refl, ap}
@@ -10,17 +10,10 @@ use lib.Dec.{eqb}
 use lib.ListN.{length, get_or, drop, drop_of_length-le}
 use lib.Seq.{drop-cons}
 use Rattle.rules.specs.Basics.{same}
-use Rattle.rules.specs.Book.{party_limit}
-use Rattle.rules.specs.Setup.{code_taken}
 use Rattle.cells.specs.Loops.{each, rows}
 use Rattle.cells.specs.Layout.{PARTIES}
-use Rattle.cells.specs.View.{cell, cell_from, part, book_of, counted, party_at, parties_in}
-use Rattle.setup.proofs.Searches.{try_row, taken_each}
+use Rattle.cells.specs.View.{cell, cell_from, part, party_at}
 use Rattle.parties.specs.Work.{same_code}
-
-pub party_search : (b code : List ℕ) → code_taken code (book_of b).parties ≡ each (try_row (same_code code) (party_at b)) (counted b PARTIES party_limit) 0 false
-unfolding book_of parties_in code_taken
-party_search b code = taken_each (same_code code) (party_at b) (code_taken code) refl (λ x xs. refl) (counted b PARTIES party_limit) 0
 
 -- ---- a byte of a code
 

@@ -1,7 +1,7 @@
 // The entry of a party, with its code and the map of its access. The promise is an equation with the rules, whatever the cells hold.
 #![tactic(auto)]
 
-ghost use Rattle.std.specs.Prelude.{◌≡◌, ◌||◌, not, [], ◌∷◌, ◌++◌, ◌<◌, ltb, leb, eqb, length};
+ghost use Rattle.std.specs.Prelude.{◌≡◌, ◌||◌, not, [], ◌∷◌, ◌++◌, ◌<◌, ltb, eqb};
 ghost use Rattle.rules.specs.Calls.{AddParty};
 ghost use Rattle.rules.specs.Codes.{is_code};
 ghost use Rattle.rules.specs.Book.{party_limit};
@@ -10,27 +10,24 @@ ghost use Rattle.cells.specs.View.{book_of, party_at};
 ghost use Rattle.answers.specs.Promises.{Judged, Answers};
 ghost use Rattle.parties.specs.Work.{same_code};
 
-use answers::Verdict;
 use cells::Book;
-use rules::Answer;
+use rules::{Answer, Refusal};
 
 fn party_field(code: [u8; 16], access: u8) -> bool
     ensures { result ≡ (eqb access 0 || ltb 127 access || not (is_code code)) }
 {
-    if access == 0 {
-        return true;
-    }
-    if access > 127 {
+    if access == 0 || access > 127 {
         return true;
     }
     !eic::is_party_code(code)
 }
 
+// By position: bytes against cells of 32 bits, which no slice compares.
 fn same_code(book: &Book, party: u32, code: [u8; 16]) -> bool
     requires { party < party_limit }
     ensures { result ≡ same_code code (party_at book.now party) }
 {
-    let at = cells::PARTIES + 1 + party as usize * 17;
+    let at = cells::PARTIES.row(party);
     for k in 0..16 {
         if book[at + k] != code[k] as u32 {
             return false;
@@ -42,40 +39,29 @@ fn same_code(book: &Book, party: u32, code: [u8; 16]) -> bool
 fn code_taken(book: &Book, code: [u8; 16]) -> bool
     ensures { result ≡ code_taken code (book_of book.now).parties }
 {
-    let count = cells::count_in(book, cells::PARTIES, cells::PARTY_LIMIT);
-    for k in 0..count {
-        if same_code(book, k, code) {
-            return true;
-        }
-    }
-    false
+    let count = cells::PARTIES.count(book);
+    (0..count).any(|k| same_code(book, k, code))
 }
 
-fn parties_full(book: &Book) -> bool
-    ensures { result ≡ leb party_limit (length (book_of book.now).parties) }
-{
-    cells::PARTY_LIMIT <= cells::count_in(book, cells::PARTIES, cells::PARTY_LIMIT)
-}
-
-fn party_verdict(book: &Book, code: [u8; 16], access: u8) -> Verdict
+fn party_verdict(book: &Book, code: [u8; 16], access: u8) -> Result<(), Refusal>
     ensures { Judged (book_of book.now) (AddParty code access) result }
 {
     if party_field(code, access) {
-        return Verdict::No(Answer::Field);
+        return Err(Refusal::Field);
     }
     if setup::setup_shut(book) {
-        return Verdict::No(Answer::SetupShut);
+        return Err(Refusal::SetupShut);
     }
     if code_taken(book, code) {
-        return Verdict::No(Answer::Taken);
+        return Err(Refusal::Taken);
     }
-    if parties_full(book) {
-        return Verdict::No(Answer::Full);
+    if cells::PARTIES.is_full(book) {
+        return Err(Refusal::Full);
     }
-    Verdict::Clear
+    Ok(())
 }
 
-// The cells of a party: its code and its access map.
+// The cells of a party: its code and its access map. By position: bytes go into cells of 32 bits.
 fn party_row(code: [u8; 16], access: u8) -> [u32; 17]
     ensures { result ≡ code ++ (access ∷ []) }
 {
@@ -90,12 +76,8 @@ fn party_row(code: [u8; 16], access: u8) -> [u32; 17]
 pub fn add_party(book: &mut Book, code: [u8; 16], access: u8) -> Answer
     ensures { Answers book.old (AddParty code access) result book.new }
 {
-    let verdict = party_verdict(book, code, access);
-    match verdict {
-        Verdict::No(answer) => answer,
-        Verdict::Clear => {
-            let row = party_row(code, access);
-            Answer::Granted(setup::place_row(book, cells::PARTIES, cells::PARTY_LIMIT, &row))
-        }
-    }
+    party_verdict(book, code, access)?;
+    cells::cells_in(book);
+    let row = party_row(code, access);
+    Ok(stores::add_row(book, cells::PARTIES, &row))
 }

@@ -1,21 +1,24 @@
 -- What the private workers read, over cells.
 -- Assumes nothing.
-use Rattle.std.specs.Prelude.{ℕ, List}
+use Rattle.std.specs.Prelude.{ℕ, List, Result}
 use Rattle.rules.specs.Book.{Right, left_at, shortfall_at}
-use Rattle.rules.specs.declared.Answer.{Answer}
-use Rattle.rules.specs.declared.Answer.TheVariants.{Granted, Unknown}
+use Rattle.rules.specs.declared.Refusal.{Refusal}
 use Rattle.cells.specs.View.{book_of}
+use Rattle.answers.specs.Promises.{ReadsDirection, ReadsProfile}
+use Rattle.answers.specs.declared.Capacity.{Capacity}
+use Rattle.answers.specs.declared.Capacity.TheVariants.{Direction, Profile}
 use Rattle.answers.specs.declared.LeftRead.{LeftRead}
 use Rattle.answers.specs.declared.RightRead.{RightRead}
 
--- the read of a direction, a profile or an hour that isn't there
-abbrev pub unknown_left : LeftRead
-unknown_left = record { answer = Unknown; left = 0; shortfall = 0 }
+-- capacity left and shortfall of a direction or a profile in an hour
+abbrev pub ReadsLeft : List ℕ → Capacity → ℕ → Result LeftRead Refusal → Type 0
+ReadsLeft cells (Direction d) hour r = ReadsDirection cells d hour r
+ReadsLeft cells (Profile p) hour r = ReadsProfile cells p hour r
 
--- the read of a row that is there
+-- the read of a place
 abbrev pub left_in : List ℕ → ℕ → ℕ → LeftRead
-left_in b row hour = record { answer = Granted 0; left = left_at (book_of b) row hour; shortfall = shortfall_at (book_of b) row hour }
+left_in b row hour = record { left = left_at (book_of b) row hour; shortfall = shortfall_at (book_of b) row hour }
 
 -- a right as its read answers it
-abbrev pub read_of : Answer → Right → RightRead
-read_of a x = record { answer = a; holder = x.holder; direction = x.direction; session = record { 0 = x.session }; mw = x.mw }
+abbrev pub read_of : Right → RightRead
+read_of x = record { holder = x.holder; direction = x.direction; session = record { 0 = x.session }; mw = x.mw }

@@ -3,56 +3,34 @@
 
 ghost use Rattle.std.specs.Prelude.{◌≡◌, ◌<◌};
 ghost use Rattle.rules.specs.Book.{right_limit};
-ghost use Rattle.rules.specs.declared.Answer.TheVariants.{Granted};
-ghost use Rattle.cells.specs.View.{InHour, right_at};
-ghost use Rattle.answers.specs.Promises.{ReadsDirection, ReadsProfile, ReadsRight};
-ghost use Rattle.reads.specs.Work.{unknown_left, left_in, read_of};
+ghost use Rattle.cells.specs.View.{right_at};
+ghost use Rattle.answers.specs.Promises.{ReadsRight};
+ghost use Rattle.reads.specs.Work.{ReadsLeft, left_in, read_of};
 
-use answers::{LeftRead, RightRead};
-use cells::Book;
-use rules::{Answer, Hour, Session};
+use answers::{Capacity, LeftRead, RightRead};
+use cells::{Book, Place};
+use rules::{Hour, Refusal};
 
 // ---- capacity left and shortfall
 
-// The read of what isn't there.
-fn left_unknown() -> LeftRead
-    ensures { result ≡ unknown_left }
+// The read of a place.
+fn left_read(book: &Book, at: Place) -> LeftRead
+    ensures { result ≡ left_in book.now at.row at.hour.0 }
 {
     LeftRead {
-        answer: Answer::Unknown,
-        left: 0,
-        shortfall: 0,
+        left: tables::left_at(book, at),
+        shortfall: tables::shortfall_at(book, at),
     }
 }
 
-// The read of a row that is there.
-fn left_read(book: &Book, row: u8, hour: Hour) -> LeftRead
-    requires { InHour row hour.0 }
-    ensures { result ≡ left_in book.now row hour.0 }
+// What is left of a direction or a profile in an hour.
+pub fn left_of(book: &Book, capacity: Capacity, hour: Hour) -> Result<LeftRead, Refusal>
+    ensures { ReadsLeft book.now capacity hour.0 result }
 {
-    LeftRead {
-        answer: Answer::Granted(0),
-        left: tables::left_at(book, row, hour),
-        shortfall: tables::shortfall_at(book, row, hour),
-    }
-}
-
-pub fn left_of_direction(book: &Book, direction: u8, hour: Hour) -> LeftRead
-    ensures { ReadsDirection book.now direction hour.0 result }
-{
-    if answers::direction_hour_unknown(book, direction, hour) {
-        return left_unknown();
-    }
-    left_read(book, direction, hour)
-}
-
-pub fn left_of_profile(book: &Book, profile: u8, hour: Hour) -> LeftRead
-    ensures { ReadsProfile book.now profile hour.0 result }
-{
-    if answers::profile_hour_unknown(book, profile, hour) {
-        return left_unknown();
-    }
-    left_read(book, cells::PROFILE_ROW + profile, hour)
+    let Some(place) = answers::place_in(book, capacity, hour) else {
+        return Err(Refusal::Unknown);
+    };
+    Ok(left_read(book, place))
 }
 
 // ---- rights
@@ -60,14 +38,14 @@ pub fn left_of_profile(book: &Book, profile: u8, hour: Hour) -> LeftRead
 // A right that is there.
 fn right_there(book: &Book, right: u16) -> RightRead
     requires { right < right_limit }
-    ensures { result ≡ read_of (Granted 0) (right_at book.now right) }
+    ensures { result ≡ read_of (right_at book.now right) }
 {
-    let at = cells::RIGHTS + 4 + right as usize * 8;
+    let key = tables::right_key(book, right);
+    let at = cells::RIGHTS.row(right as u32) + 3;
     RightRead {
-        answer: Answer::Granted(0), // with no detail
-        holder: tables::right_holder(book, right),
-        direction: tables::right_direction(book, right),
-        session: tables::right_session(book, right),
+        holder: key.holder,
+        direction: key.direction,
+        session: key.session,
         mw: [
             book[at],
             book[at + 1],
@@ -78,17 +56,11 @@ fn right_there(book: &Book, right: u16) -> RightRead
     }
 }
 
-pub fn right_at(book: &Book, right: u16) -> RightRead
+pub fn right_at(book: &Book, right: u16) -> Result<RightRead, Refusal>
     ensures { ReadsRight book.now right result }
 {
-    if cells::count_in(book, cells::RIGHTS, cells::RIGHT_LIMIT) <= right as u32 {
-        return RightRead {
-            answer: Answer::Unknown,
-            holder: 0,
-            direction: 0,
-            session: Session(0),
-            mw: [0; 5],
-        };
+    if cells::RIGHTS.count(book) <= right as u32 {
+        return Err(Refusal::Unknown);
     }
-    right_there(book, right)
+    Ok(right_there(book, right))
 }

@@ -1,10 +1,6 @@
 -- Reading and writing undo each other.
 -- Assumes nothing.
-use Prim.Native.Nat.{ℕ}
-use mathlib.Core.Path.{◌≡◌, sym, ap, ◌∙◌}
-use mathlib.Core.Bool.{false}
-use mathlib.Core.List.{List}
-use lib.ListN.{length, drop}
+use Rattle.std.proofs.Common.{◌≡◌, ℕ, List, length, drop, false, sym, ap, ◌∙◌}
 use Rattle.rules.specs.Calls.{Reply}
 use Rattle.rules.specs.Said.{said}
 use Rattle.rules.specs.Records.{record_of, Written, RecordReply, reading, writing}
@@ -23,9 +19,10 @@ read_back call before after answer r w granted read =
     ∙ read_written call rest w.call_fits.hours w.call_fits.fields kind.0 kind.1 ∙ rw size
 
 pub write_back : WriteBack
-write_back bytes r before after answer read granted fits w =
+write_back bytes r before after answer read fits w =
     let call = ap (λ (x : RecordReply). x.call) read.reply in
     let size : r.length ≡ (reading bytes).length = ap (λ (x : RecordReply). x.length) read.reply in
-    let back = (written_read bytes read.bytes_fit (sym (ap (λ (x : RecordReply). x.reply.number) read.reply) ∙ granted)).1 before (rw size at fits) in
+    let granted : (reading bytes).reply.number ≡ 0 = sym (ap (λ (x : RecordReply). x.reply.number) read.reply) in
+    let back = (written_read bytes read.bytes_fit granted).1 before (rw size at fits) in
     let told = ap (λ (c : CallRecord). writing c before) call ∙ back in
     (w.reply ∙ ap (λ (x : Written). x.reply) told ∙ rw size, w.buffer ∙ ap (λ (x : Written). x.buffer) told ∙ rw size)

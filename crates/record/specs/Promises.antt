@@ -1,19 +1,21 @@
 -- What `read` and `write` promise.
 -- Assumes nothing.
-use Rattle.std.specs.Prelude.{ℕ, ◌<◌, ◌≡◌, List, get_or}
-use Rattle.rules.specs.Said.{said}
-use Rattle.rules.specs.Records.{RecordReply, reading, writing}
-use Rattle.rules.specs.declared.Answer.{Answer}
+use Rattle.std.specs.Prelude.{ℕ, ◌<◌, ◌≡◌, List, Result, Ok, Err, get_or}
+use Rattle.rules.specs.Calls.{no_details}
+use Rattle.rules.specs.Said.{Answer, said, said_refusal}
+use Rattle.rules.specs.Records.{RecordReply, reading, writing, no_call}
+use Rattle.rules.specs.declared.Refusal.{Refusal}
 use Rattle.rules.specs.declared.CallRecord.{CallRecord}
 use Rattle.fields.specs.Fields.{CallFits}
 use Rattle.record.specs.declared.RecordRead.{RecordRead}
 
--- the answer, the length and the call, as document 01 has them
-abbrev pub read_said : RecordRead → RecordReply
-read_said r = record { reply = said r.answer; length = r.length; call = r.call }
+-- the answer, the length and the call, as document 01 has them: a refusal has the length 0 and the call of zeros
+abbrev pub read_said : Result RecordRead Refusal → RecordReply
+read_said (Ok r) = record { reply = no_details 0; length = r.length; call = r.call }
+read_said (Err e) = record { reply = said_refusal e; length = 0; call = no_call }
 
 -- a reading is that of the rules
-pub record Reads (bytes : List ℕ) (r : RecordRead) : Type 0 where
+pub record Reads (bytes : List ℕ) (r : Result RecordRead Refusal) : Type 0 where
   pub bytes_fit : (i : ℕ) → get_or bytes i 0 < 256
   pub reply : read_said r ≡ reading bytes
 

@@ -7,13 +7,12 @@ ghost use Rattle.rules.specs.Records.{widths, kind_at, is_kind, foreign, bytes_o
 ghost use Rattle.record.specs.Steps.{Finds, refuses_found, Length};
 ghost use Rattle.record.specs.Promises.{Reads, Writes};
 
-use fields::Fields;
-use rules::{Answer, CallRecord};
+use fields::{Field, Fields};
+use rules::{Answer, CallRecord, Refusal};
 
-// What the reader answers: granted with the record's length and call, or refused with zeros.
-#[derive(Clone, Copy)]
+// A record that was read: how many bytes it takes, and its call.
+#[derive(Clone, Copy, PartialEq, Eq)]
 pub struct RecordRead {
-    pub answer: Answer,
     pub length: usize,
     pub call: CallRecord,
 }
@@ -22,7 +21,7 @@ pub struct RecordRead {
 #[derive(Clone, Copy)]
 struct Found {
     map: u32,
-    values: Fields,
+    fields: Fields,
     end: usize,
 }
 
@@ -32,39 +31,40 @@ struct Found {
 fn byte_at(bytes: &[u8], at: usize) -> u8
     ensures { result ≡ get_or bytes.now at 0 }
 {
-    if at < bytes.len() { bytes[at] } else { 0 }
+    bytes.get(at).copied().unwrap_or(0)
 }
 
 // The number of some bytes at a position, from the last byte down.
+#[tactic(auto, using(crate::proofs::Turns::number_next, crate::proofs::Turns::number_done, crate::proofs::Turns::number_room))]
 fn number_at(bytes: &[u8], at: usize, width: usize) -> u32
     requires { (at ≤ 100) × (width ≤ 4) }
     ensures { result ≡ number_at width bytes.now at }
 {
     let mut number: u32 = 0;
-    let mut left = width;
-    while 0 < left {
-        left -= 1;
-        number = byte_at(bytes, at + left) as u32 + 256 * number;
+    for i in (0..width).rev() {
+        number = byte_at(bytes, at + i) as u32 + 256 * number;
     }
     number
 }
 
 // The map, and the fields whose bit stands in it, one after the other.
+#[tactic(auto, using(crate::proofs::Turns::fields_next, crate::proofs::Turns::end_next, crate::proofs::Turns::take_set))]
 fn find_fields(bytes: &[u8]) -> Found
     ensures { Finds bytes.now result }
 {
     let map = number_at(bytes, 0, 2);
     let mut values = [0u32; 15];
-    let mut at: usize = 2;
-    for field in 0..15 {
-        let size = fields::size_read(map, field);
-        values[field] = number_at(bytes, at, size);
-        at += size;
+    let mut end: usize = 2;
+    for (bit, value) in values.iter_mut().enumerate() {
+        let field = Field { bit };
+        let size = field.size_read(map);
+        *value = number_at(bytes, end, size);
+        end += size;
     }
     Found {
         map,
-        values,
-        end: at,
+        fields: Fields(values),
+        end,
     }
 }
 
@@ -72,83 +72,68 @@ fn find_fields(bytes: &[u8]) -> Found
 fn reader_refuses(found: Found, length: usize) -> bool
     ensures { result ≡ refuses_found found length }
 {
-    if length < 2 {
-        return true;
-    }
-    if length < found.end {
-        return true;
-    }
-    let values = found.values;
-    fields::map_refused(found.map, values)
+    length < 2 || length < found.end || found.fields.map_refused(found.map)
 }
 
 // Reads the record that the bytes begin with, and ignores what follows it.
-pub fn read(bytes: &[u8]) -> RecordRead
+pub fn read(bytes: &[u8]) -> Result<RecordRead, Refusal>
     ensures { Reads bytes.now result }
 {
     let found = find_fields(bytes);
-    let values = found.values;
     if reader_refuses(found, bytes.len()) {
-        return RecordRead {
-            answer: Answer::Record,
-            length: 0,
-            call: fields::no_call(),
-        };
+        return Err(Refusal::Record);
     }
-    RecordRead {
-        answer: Answer::Granted(0),
+    Ok(RecordRead {
         length: found.end,
-        call: fields::call_of(values),
-    }
+        call: found.fields.call(),
+    })
 }
 
 // ---- writing
 
-// The length of a kind's record with these values.
-fn record_length(kind: u32, values: Fields) -> usize
-    ensures { Length kind values result }
+// The length of the record of a call's fields.
+#[tactic(auto, using(crate::proofs::Turns::length_next, crate::proofs::Turns::body_done))]
+fn record_length(fields: Fields) -> usize
+    ensures { Length fields.0 result }
 {
+    let values = fields.0;
     let mut length: usize = 2;
-    for field in 0..15 {
-        length += fields::size_written(kind, field, values[field]);
+    for (bit, value) in values.iter().enumerate() {
+        let field = Field { bit };
+        length += field.size_written(values[0], *value);
     }
     length
 }
 
 // The kind is none, a field foreign to it is not zero, or there is too little room.
-fn writer_refuses(kind: u32, values: Fields, length: usize, room: usize) -> bool
-    ensures { result ≡ (not (is_kind kind) || foreign (kind_at kind) 0 values || ltb room length) }
+fn writer_refuses(fields: Fields, length: usize, room: usize) -> bool
+    ensures { result ≡ (not (is_kind (get_or fields.0 0 0)) || foreign (kind_at (get_or fields.0 0 0)) 0 fields.0 || ltb room length) }
 {
-    if !fields::is_kind(kind) {
-        return true;
-    }
-    if fields::any_foreign(kind, values) {
-        return true;
-    }
-    room < length
+    !fields::is_kind(fields.kind()) || fields.any_foreign(fields.kind()) || room < length
 }
 
-// A number in some bytes at a position, low byte first.
-fn put_number(buffer: &mut [u8], at: usize, width: usize, number: u32)
-    requires { at + width ≤ length buffer.old }
-    ensures { buffer.new ≡ sets buffer.old at (bytes_of width number) }
+// A number in all of some bytes, low byte first.
+#[tactic(auto, using(crate::proofs::Turns::low_bytes))]
+fn put_number(bytes: &mut [u8], number: u32)
+    requires { length bytes.old ≤ 4 }
+    ensures { bytes.new ≡ bytes_of (length bytes.old) number }
 {
-    let mut rest = number;
-    for i in 0..width {
-        buffer[at + i] = (rest % 256) as u8;
-        rest = rest / 256;
-    }
+    let width = bytes.len();
+    bytes.copy_from_slice(&number.to_le_bytes()[..width]);
 }
 
-// The fields of a kind's record, past the map.
-fn put_fields(buffer: &mut [u8], kind: u32, values: Fields)
-    requires { 2 + length (body (kind_at kind) 0 widths values) ≤ length buffer.old }
-    ensures { buffer.new ≡ sets buffer.old 2 (body (kind_at kind) 0 widths values) }
+// The fields of a record, past the map.
+#[tactic(auto, using(crate::proofs::Turns::length_next, crate::proofs::Turns::sets_next, crate::proofs::Turns::body_done, crate::proofs::Turns::part_put))]
+fn put_fields(buffer: &mut [u8], fields: Fields)
+    requires { 2 + length (body (kind_at (get_or fields.0 0 0)) 0 widths fields.0) ≤ length buffer.old }
+    ensures { buffer.new ≡ sets buffer.old 2 (body (kind_at (get_or fields.0 0 0)) 0 widths fields.0) }
 {
+    let values = fields.0;
     let mut at: usize = 2;
-    for field in 0..15 {
-        let size = fields::size_written(kind, field, values[field]);
-        put_number(buffer, at, size, values[field]);
+    for (bit, value) in values.iter().enumerate() {
+        let field = Field { bit };
+        let size = field.size_written(values[0], *value);
+        put_number(&mut buffer[at..at + size], *value);
         at += size;
     }
 }
@@ -157,13 +142,12 @@ fn put_fields(buffer: &mut [u8], kind: u32, values: Fields)
 pub fn write(call: CallRecord, buffer: &mut [u8]) -> Answer
     ensures { Writes call buffer.old result buffer.new }
 {
-    let values = fields::fields_of(call);
-    let kind = values[0];
-    let length = record_length(kind, values);
-    if writer_refuses(kind, values, length, buffer.len()) {
-        return Answer::Record;
+    let fields = Fields::from(call);
+    let length = record_length(fields);
+    if writer_refuses(fields, length, buffer.len()) {
+        return Err(Refusal::Record);
     }
-    put_number(buffer, 0, 2, fields::map_for(kind, values));
-    put_fields(buffer, kind, values);
-    Answer::Granted(length as u32)
+    put_number(&mut buffer[..2], fields.map(fields.kind()));
+    put_fields(buffer, fields);
+    Ok(length as u32)
 }

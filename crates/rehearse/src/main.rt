@@ -2,105 +2,95 @@
 #![tactic(auto)]
 
 use cells::Book;
-use rehearse_lines::Found;
-use rehearse_text::{Numbers, byte_at};
-use rehearse_words::Run;
-use std::io::Read;
-
-// Room for a line, and for the first byte of CR LF after it.
-const ROOM: usize = 201;
+use rehearse_lines::{Kind, Request};
+use rehearse_reads::Reply;
+use rehearse_text::Line;
+use rehearse_words::Counts;
+use std::io;
+use std::io::{Read, Write};
 
 // ---- lines
 
-// The numbers of a line's answer; none where it doesn't fit.
-fn numbers(book: &mut Book, line: &[u8], found: Found) -> Numbers {
-    let kind = found.kind;
-    let given = found.given.values;
-    if found.state != rehearse_lines::FITS {
-        return rehearse_text::none();
+fn reply(book: &mut Book, request: &Request) -> Reply {
+    let given = request.given.values();
+    match request.kind {
+        Kind::Open => {
+            let answer = rehearse_calls::open(book, given);
+            Reply::Opening(answer, cells::day(book))
+        }
+        Kind::Call(kind) => {
+            Reply::Call(kind, rehearse_calls::call(book, kind, given, request.code))
+        }
+        Kind::Read(kind) => rehearse_reads::read(book, kind, given),
     }
-    if kind == rehearse_lines::OPEN {
-        return rehearse_reads::of_answer(rehearse_calls::open(book, given));
-    }
-    if rehearse_lines::LEFT <= kind {
-        return rehearse_reads::read(book, kind, given);
-    }
-    let code = rehearse_text::code_at(line, found.code);
-    rehearse_reads::of_answer(rehearse_calls::call(book, kind, given, code))
 }
 
-// Answers a line and prints it at once.
-fn answer(rt: &impl Print, book: &mut Book, line: &[u8], run: Run) -> Run {
-    let found = rehearse_lines::read(line, run.opened);
-    let numbers = numbers(book, line, found);
-    rehearse_words::print_line(rt, run, line, found, numbers, rehearse_reads::day(book))
-}
-
-// The first `count` bytes are the line; a line that is too long fills the room.
-fn finish(rt: &impl Print, book: &mut Book, line: &[u8], count: usize, run: Run) -> Run {
-    let start = rehearse_text::start_of(line, count);
-    if start <= count && count <= line.len() {
-        return answer(rt, book, &line[start..count], run);
+// Answers a line and prints it.
+fn answer<W: Write>(
+    out: &mut W,
+    book: &mut Book,
+    counts: &mut Counts,
+    line: &[u8],
+) -> io::Result<()> {
+    let line = rehearse_text::without_order_mark(line);
+    match rehearse_lines::read(line, counts.has_opened()) {
+        Ok(None) => rehearse_words::write_passed_on(out, line),
+        Ok(Some(request)) => {
+            let reply = reply(book, &request);
+            counts.add_answered(rehearse_words::differs(&request, reply));
+            rehearse_words::write_answered(out, line, &request, reply)
+        }
+        Err(unfit) => {
+            counts.add_not_understood();
+            rehearse_words::write_unfit(out, line, unfit)
+        }
     }
-    answer(rt, book, line, run)
-}
-
-fn take(rt: &impl Print, book: &mut Book, line: &mut [u8], byte: u8, mut run: Run) -> Run {
-    if byte == b'\n' {
-        return finish(
-            rt,
-            book,
-            line,
-            rehearse_text::without_return(line, run.count),
-            run,
-        );
-    }
-    run.count = rehearse_text::keep(line, run.count, byte);
-    run
 }
 
 // ---- the input
 
-fn take_all(rt: &impl Print, book: &mut Book, line: &mut [u8], bytes: &[u8], start: Run) -> Run {
-    let mut run = start;
-    for k in 0..bytes.len() {
-        run = take(rt, book, line, byte_at(bytes, k), run);
-    }
-    run
-}
-
-// A last line may have no end.
-fn take_rest(rt: &impl Print, book: &mut Book, line: &[u8], run: Run) -> Run {
-    if run.count == 0 {
-        return run;
-    }
-    finish(rt, book, line, run.count, run)
+// A part of the input, up to a line's end or the end of what has come.
+fn take<W: Write>(
+    out: &mut W,
+    book: &mut Book,
+    counts: &mut Counts,
+    line: &mut Line,
+    part: &[u8],
+) -> io::Result<()> {
+    let Some(last) = part.strip_suffix(b"\n") else {
+        rehearse_text::keep(line, part);
+        return Ok(());
+    };
+    rehearse_text::keep(line, last);
+    answer(out, book, counts, rehearse_text::without_return(line))?;
+    line.clear();
+    Ok(())
 }
 
 // A proved loop has to end, and nothing says that the input does: it ends after a number of turns that no run uses up.
-fn answer_all(rt: &(impl Input + Print), book: &mut Book, line: &mut [u8]) -> Run {
-    let mut space = [0u8; 65536];
-    let buffer: &mut [u8] = &mut space;
-    let mut input = rt.reader();
-    let mut run = rehearse_words::begun();
+fn answer_all<R: Read, W: Write>(input: &mut R, out: &mut W) -> io::Result<()> {
+    let mut book = [0u32; cells::CELLS];
+    let mut counts = Counts::default();
+    let mut line = Line::new();
+    let mut buffer = [0u8; 65536];
     for _ in 0..u64::MAX {
-        if !run.printed {
-            return run;
-        }
         // A read that fails ends the input.
-        let count = input.read(buffer).unwrap_or(0);
+        let count = input.read(&mut buffer).unwrap_or(0);
         if count == 0 {
-            return run;
+            break;
         }
-        run = take_all(rt, book, line, &buffer[..count], run);
+        for part in buffer[..count].split_inclusive(|byte| *byte == b'\n') {
+            take(out, &mut book, &mut counts, &mut line, part)?;
+        }
     }
-    run
+    // A last line may have no end.
+    if !line.is_empty() {
+        answer(out, &mut book, &mut counts, &line)?;
+    }
+    writeln!(out, "{counts}")
 }
 
 fn main(rt: HostRuntime) {
-    let mut book = [0u32; cells::CELLS];
-    let mut space = [0u8; ROOM];
-    let line: &mut [u8] = &mut space;
-    let run = answer_all(&rt, &mut book, line);
-    rehearse_words::print_counts(&rt, take_rest(&rt, &mut book, line, run));
+    // A write that fails ends it without a word.
+    let _ended = answer_all(&mut rt.reader(), &mut io::writer(&rt));
 }

@@ -1,7 +1,9 @@
 -- The call that a line makes: its fields are the numbers of the line in their order.
 -- Assumes nothing.
-use Rattle.std.specs.Prelude.{ℕ, ◌+◌, cond, List, [], ◌∷◌, eqb}
+use Rattle.std.specs.Prelude.{ℕ, ◌+◌, List, [], ◌∷◌}
 use Rattle.rules.specs.Calls.{Call, AddDirection, AddProfile, AddParty, OfferDirection, OfferProfile, Bid, Nominate, Match}
+use Rattle.rehearse_lines.specs.declared.kinds.CallKind.{CallKind}
+use Rattle.rehearse_lines.specs.declared.kinds.CallKind.TheVariants.{Direction, Profile, Party, Offer, OfferOfProfile, Bid as BidLine, Nominate as NominateLine, Match as MatchLine}
 use Rattle.rehearse_numbers.specs.Fields.{byte_at, two_at, four_at}
 
 -- the MW of a session's five hours
@@ -32,18 +34,13 @@ nominate_of given = Nominate (four_at given 0) (byte_at given 1) (byte_at given 
 abbrev pub match_of : List ℕ → Call
 match_of given = Match (four_at given 0) (byte_at given 1) (byte_at given 2)
 
--- by the kind of a line with a time, 4 to 8
-unfoldable pub timed_call : ℕ → List ℕ → Call
-timed_call kind given =
-    cond
-    (eqb kind 4)
-    (offer_of given)
-    (cond (eqb kind 5) (profile_offer_of given) (cond (eqb kind 6) (bid_of given) (cond (eqb kind 7) (nominate_of given) (match_of given))))
-
--- by the kind of the line, 1 to 8
-unfoldable pub line_call : ℕ → List ℕ → List ℕ → Call
-line_call kind given code =
-    cond
-    (eqb kind 1)
-    (direction_of given)
-    (cond (eqb kind 2) (AddProfile (four_at given 0)) (cond (eqb kind 3) (AddParty code (byte_at given 0)) (timed_call kind given)))
+-- by the kind of the line
+abbrev pub line_call : CallKind → List ℕ → List ℕ → Call
+line_call Direction given code = direction_of given
+line_call Profile given code = AddProfile (four_at given 0)
+line_call Party given code = AddParty code (byte_at given 0)
+line_call Offer given code = offer_of given
+line_call OfferOfProfile given code = profile_offer_of given
+line_call BidLine given code = bid_of given
+line_call NominateLine given code = nominate_of given
+line_call MatchLine given code = match_of given

@@ -1,95 +1,48 @@
--- Digits are read one by one, and a number that is too large for every field stays so.
+-- Digits are taken one by one, and a number that is too large for every field stays so.
 -- Assumes nothing.
-use Prim.Native.Nat.{ℕ, suc, ◌+◌, ◌-◌, ◌*◌, ◌≤◌, ◌<◌}
-use mathlib.Core.Path.{◌≡◌, refl, sym, ap, ◌∙◌}
-use mathlib.Core.Bool.{Bool, true, false, cond}
-use mathlib.Core.List.{List, [], ◌∷◌}
-use native.Mathlib.Nat.{le_trans}
-use native.Mathlib.Numerals.{add-one}
-use native.Mathlib.Omega.{arith}
-use lib.Dec.{leb, ltb}
-use lib.ListN.{length, get_or, drop, drop_of_length-le}
-use lib.Seq.{drop-cons}
-use borrow.Author.Tests.{leb-true, le-ltb, ltb-true, ltb-false}
-use Rattle.rehearse_numbers.specs.Decimal.{is_digit, decimal_of, digits_in, capped, Read}
-
-pub digit_range : (b : ℕ) → is_digit b ≡ true → (48 ≤ b) × (b ≤ 57)
-digit_range b h = go (leb 48 b) refl h
-  where
-    go : (t : Bool) → leb 48 b ≡ t → cond t (leb b 57) false ≡ true → (48 ≤ b) × (b ≤ 57)
-    go true e k = (leb-true 48 b e, leb-true b 57 k)
-    go false e k = let z : ◌≡◌ {A = Bool} false true = k in absurd (let y : ◌≡◌ {A = ℕ} 0 1 = cc in omega arith)
+use Rattle.std.proofs.Common.{ℕ, suc, ◌+◌, ◌-◌, ◌*◌, ◌≤◌, ◌≡◌, ◌∙◌, sym, refl, Bool, true, false, cond, List, [], ◌∷◌, take, drop, arith}
+use Rattle.std.specs.Char.{is_ascii_digit}
+use Rattle.std.specs.List.{fold, prefix_len}
+use Rattle.rehearse_numbers.specs.Decimal.{decimal_of, digits_in, capped, Read}
+use Rattle.std.proofs.lemmas.Grind.{common_steps}
 
 -- more digits make no number smaller
 grows : (v : ℕ) (bs : List ℕ) → v ≤ decimal_of v bs
 unfolding decimal_of
 grows v [] = omega arith
-grows v (b ∷ bs) = go (is_digit b) (grows (v * 10 + (b - 48)) bs)
-  where
-    go : (t : Bool) → v * 10 + (b - 48) ≤ decimal_of (v * 10 + (b - 48)) bs → v ≤ cond t (decimal_of (v * 10 + (b - 48)) bs) v
-    go true h = omega arith
-    go false h = omega arith
-
-pub large : (n : ℕ) → 4294967296 ≤ n → capped n ≡ 4294967296
-large n h = rw (le-ltb n 4294967296 h)
-
-pub small : (n : ℕ) → n ≤ 4294967296 → n ≡ capped n
-small n h = go (ltb n 4294967296) refl
-  where
-    go : (t : Bool) → ltb n 4294967296 ≡ t → n ≡ cond t n 4294967296
-    go true e = refl
-    go false e = omega (arith, ltb-false n 4294967296 e)
-
-pub capped_small : (n : ℕ) → capped n ≤ 4294967296
-capped_small n = go (ltb n 4294967296) refl
-  where
-    go : (t : Bool) → ltb n 4294967296 ≡ t → cond t n 4294967296 ≤ 4294967296
-    go true e = omega (arith, ltb-true n 4294967296 e)
-    go false e = omega arith
+grows v (b ∷ bs) = grind (arith, common_steps, grows (v * 10 + (b - 48)) bs)
 
 -- the cap makes no difference to what is read after it
 stays : (v : ℕ) (bs : List ℕ) → capped (decimal_of v bs) ≡ capped (decimal_of (capped v) bs)
-stays v bs = go (ltb v 4294967296) refl
-  where
-    go : (t : Bool) → ltb v 4294967296 ≡ t → capped (decimal_of v bs) ≡ capped (decimal_of (cond t v 4294967296) bs)
-    go true e = refl
-    go false e =
-        large (decimal_of v bs) (le_trans (ltb-false v 4294967296 e) (grows v bs))
-        ∙ sym (large (decimal_of 4294967296 bs) (grows 4294967296 bs))
+stays v bs = grind (arith, common_steps, grows v bs, grows 4294967296 bs)
 
--- where a digit stands, it is read
-pub digit_read : (line : List ℕ) (at v : ℕ) → at < length line → is_digit (get_or line at 0) ≡ true
-    → capped (decimal_of v (drop at line)) ≡ capped (decimal_of (capped (v * 10 + (get_or line at 0 - 48))) (drop (at + 1) line))
+same_cap : (n : ℕ) → capped n ≡ capped (capped n)
+same_cap n = grind arith
+
+-- the digits at the front, taken one after the other
+folded : (v : ℕ) (bs : List ℕ) → v ≡ capped v
+    → fold (λ n b. capped (n * 10 + (b - 48))) v (take (prefix_len is_ascii_digit bs) bs) ≡ capped (decimal_of v bs)
 unfolding decimal_of
-digit_read line at v h d =
-    rw (drop-cons line at 0 h, d, add-one at) (stays (v * 10 + (get_or line at 0 - 48)) (drop (suc at) line))
+folded v [] h = h
+folded v (b ∷ bs) h =
+    go (is_ascii_digit b)
+    (folded (capped (v * 10 + (b - 48))) bs (same_cap (v * 10 + (b - 48))) ∙ sym (stays (v * 10 + (b - 48)) bs))
+  where
+    go : (t : Bool)
+        → fold (λ n c. capped (n * 10 + (c - 48))) (capped (v * 10 + (b - 48))) (take (prefix_len is_ascii_digit bs) bs)
+        ≡ capped (decimal_of (v * 10 + (b - 48)) bs)
+        → fold (λ n c. capped (n * 10 + (c - 48))) v (take (cond t (1 + prefix_len is_ascii_digit bs) 0) (b ∷ bs))
+        ≡ capped (cond t (decimal_of (v * 10 + (b - 48)) bs) v)
+    go true e =
+        let one : 1 + prefix_len is_ascii_digit bs ≡ suc (prefix_len is_ascii_digit bs) = omega arith in rw one e
+    go false e = h
 
-pub digit_counted : (line : List ℕ) (at : ℕ) → at < length line → is_digit (get_or line at 0) ≡ true
-    → at + digits_in (drop at line) ≡ (at + 1) + digits_in (drop (at + 1) line)
-unfolding digits_in
-digit_counted line at h d = rw (drop-cons line at 0 h, d, add-one at) (omega arith)
-
--- what was read is told where no digit follows
-module _ (line : List ℕ) (from v at : ℕ) where
-  told : v ≤ 4294967296 → capped (decimal_of 0 (drop from line)) ≡ capped (decimal_of v (drop at line))
-      → from + digits_in (drop from line) ≡ at + digits_in (drop at line)
-      → decimal_of v (drop at line) ≡ v → digits_in (drop at line) ≡ 0 → Read line from v at
-  told s i j e f =
-      record {
-        number = small v s ∙ sym (i ∙ ap capped e);
-        past = omega arith;
-      }
-
-  pub at_end : v ≤ 4294967296 → capped (decimal_of 0 (drop from line)) ≡ capped (decimal_of v (drop at line))
-      → from + digits_in (drop from line) ≡ at + digits_in (drop at line)
-      → length line ≤ at → Read line from v at
-  unfolding decimal_of digits_in
-  at_end s i j h =
-      let e : drop at line ≡ [] = drop_of_length-le line h in
-      told s i j (rw e) (rw e)
-
-  pub at_other : v ≤ 4294967296 → capped (decimal_of 0 (drop from line)) ≡ capped (decimal_of v (drop at line))
-      → from + digits_in (drop from line) ≡ at + digits_in (drop at line)
-      → at < length line → is_digit (get_or line at 0) ≡ false → Read line from v at
-  unfolding decimal_of digits_in
-  at_other s i j h d = told s i j (rw (drop-cons line at 0 h, d)) (rw (drop-cons line at 0 h, d))
+-- so many digits stand at a position of a line, and this number was taken from them
+pub read_at : (line rest : List ℕ) (from value count : ℕ) → rest ≡ drop from line → count ≡ digits_in rest
+    → value ≡ fold (λ n b. capped (n * 10 + (b - 48))) 0 (take count rest) → Read line from value (from + count)
+read_at line rest from value count r c v =
+    let e = folded 0 rest refl in
+    record {
+      number = cc;
+      past = cc;
+    }

@@ -1,68 +1,62 @@
 // The numbers of a line: what its digits mean, and which numbers a field holds.
 #![tactic(auto)]
 
-ghost use Rattle.std.specs.Prelude.{◌≡◌, ltb};
-ghost use Rattle.rehearse_numbers.specs.Decimal.{is_digit, Read, limit_of, capped};
+mod fields;
 
-// A number, and the position past its digits. 2^32 stands for any number that is as large or larger.
+ghost use Rattle.std.specs.Prelude.{◌≡◌, ◌+◌, ◌-◌, ◌*◌, ◌<◌, ◌≤◌, ◌↔◌, IsNone, IfSome, length, drop, fold};
+ghost use Rattle.rehearse_numbers.specs.Decimal.{Read, digits_in, capped};
+
+pub use fields::{Field, Width, fits, kept};
+
+// 2^32, which stands for any number that is as large or larger.
+const CAP: u64 = 4294967296;
+
+// A number, and the position past its digits.
 #[derive(Clone, Copy)]
 pub struct Digits {
     pub value: u64,
     pub end: usize,
 }
 
-fn is_digit(byte: u8) -> bool
-    ensures { result ≡ is_digit byte }
+// A number with one more digit behind it.
+fn and_digit(number: u64, digit: u8) -> u64
+    ensures { result ≡ capped (number * 10 + (digit - 48)) }
 {
-    b'0' <= byte && byte <= b'9'
+    let tens = number.saturating_mul(10);
+    let ones = u64::from(digit.saturating_sub(b'0'));
+    tens.saturating_add(ones).min(CAP)
 }
 
-// 2^32 for any number above it.
-fn cap(number: u64) -> u64
-    ensures { result ≡ capped number }
+// How many digits stand at the front.
+fn digits_in(text: &[u8]) -> usize
+    ensures count { result ≡ digits_in text.now }
+    ensures within { result ≤ length text.now }
 {
-    if number < 4294967296 {
-        number
-    } else {
-        4294967296
-    }
+    text.iter().take_while(|byte| byte.is_ascii_digit()).count()
 }
 
-// The number that the digits from here on mean.
-pub fn digits_from(line: &[u8], from: usize) -> Digits
-    ensures { Read line.now from result.value result.end }
+// The number that digits mean, one after the other.
+fn number_of(digits: &[u8]) -> u64
+    ensures { result ≡ fold (λ n b. capped (n * 10 + (b - 48))) 0 digits.now }
 {
-    let mut value: u64 = 0;
-    let mut at = from;
-    while at < line.len() {
-        let byte = line[at];
-        if !is_digit(byte) {
-            break;
-        }
-        value = cap(value * 10 + (byte - b'0') as u64);
-        at += 1;
-    }
-    Digits { value, end: at }
+    digits
+        .iter()
+        .fold(0, |number, digit| and_digit(number, *digit))
 }
 
-// What a field holds, by its mark: 1, 2 or 4 bytes, or else the number of a direction in a map.
-fn limit_of(mark: u8) -> u64
-    ensures { result ≡ limit_of mark }
+// The number that the digits from here on mean; none where no digit stands here.
+pub fn digits_from(line: &[u8], from: usize) -> Option<Digits>
+    ensures none { IsNone result ↔ (digits_in (drop from line.now) ≡ 0) }
+    ensures number { IfSome result (λ digits. Read line.now from digits.value digits.end) }
+    ensures within { IfSome result (λ digits. (from < digits.end) × (digits.end ≤ length line.now)) }
 {
-    if mark == b'1' {
-        return 256;
+    let rest = line.get(from..)?;
+    let count = digits_in(rest);
+    if count == 0 {
+        return None;
     }
-    if mark == b'2' {
-        return 65536;
-    }
-    if mark == b'4' {
-        return 4294967296;
-    }
-    32
-}
-
-pub fn fits(value: u64, mark: u8) -> bool
-    ensures { result ≡ ltb value (limit_of mark) }
-{
-    value < limit_of(mark)
+    Some(Digits {
+        value: number_of(&rest[..count]),
+        end: from + count,
+    })
 }

@@ -1,96 +1,98 @@
-// The reads that a line makes, and the numbers of every answer.
+// The reads that a line makes, and what each line is answered.
 #![tactic(auto)]
 
-ghost use Rattle.answers.specs.Promises.{ReadsDirection, ReadsProfile, ReadsRight, ReadsConfirmed};
-ghost use Rattle.rehearse_numbers.specs.Fields.{byte_at, two_at};
+ghost use Rattle.std.specs.Prelude.{◌≡◌};
+ghost use Rattle.rehearse_reads.specs.LineReads.{ReadsLine};
 
-use answers::{ConfirmedRead, LeftRead, RightRead};
+use answers::{LeftRead, RightRead};
 use cells::Book;
-use rehearse_text::{Numbers, and, none};
-use rules::{Answer, Hour};
+use day::Day;
+use rehearse_lines::{CallKind, ReadKind};
+use rehearse_numbers::kept;
+use rehearse_text::Numbers;
+use rules::{Answer, Hour, Refusal};
 
-// ---- the reads of the book
-
-fn left_of_direction(book: &Book, given: [u64; 10]) -> LeftRead
-    ensures { ReadsDirection book.now (byte_at given 0) (byte_at given 1) result }
-{
-    daybook::left_of_direction(book, (given[0] % 256) as u8, Hour((given[1] % 256) as u8))
-}
-
-fn left_of_profile(book: &Book, given: [u64; 10]) -> LeftRead
-    ensures { ReadsProfile book.now (byte_at given 0) (byte_at given 1) result }
-{
-    daybook::left_of_profile(book, (given[0] % 256) as u8, Hour((given[1] % 256) as u8))
-}
-
-fn right(book: &Book, given: [u64; 10]) -> RightRead
-    ensures { ReadsRight book.now (two_at given 0) result }
-{
-    daybook::right_at(book, (given[0] % 65536) as u16)
-}
-
-fn confirmed(book: &Book, given: [u64; 10]) -> ConfirmedRead
-    ensures { ReadsConfirmed book.now (two_at given 0) (byte_at given 1) (byte_at given 2) result }
-{
-    let number = (given[0] % 65536) as u16;
-    let out = (given[1] % 256) as u8;
-    let into = (given[2] % 256) as u8;
-    daybook::confirmed_of(book, number, out, into)
-}
-
-// The weekday and the hours of the book's day.
-pub fn day(book: &Book) -> Numbers {
-    let weekday = and(none(), cells::weekday(book) as u64);
-    and(weekday, cells::hours(book) as u64)
-}
-
-// ---- the numbers of an answer
-
-pub fn of_answer(answer: Answer) -> Numbers {
-    let said = daybook::numbers(answer);
-    let number = and(none(), said.number as u64);
-    and(and(number, said.first as u64), said.second as u64)
-}
-
-// The number alone.
-fn number_of(answer: Answer) -> Numbers {
-    and(none(), daybook::numbers(answer).number as u64)
-}
-
-fn of_left(read: LeftRead) -> Numbers {
-    let answer = read.answer;
-    and(
-        and(number_of(answer), read.left as u64),
-        read.shortfall as u64,
-    )
-}
-
-fn and_five(before: Numbers, mw: [u32; 5]) -> Numbers {
-    let three = and(and(and(before, mw[0] as u64), mw[1] as u64), mw[2] as u64);
-    and(and(three, mw[3] as u64), mw[4] as u64)
-}
-
-fn of_right(read: RightRead) -> Numbers {
-    let answer = read.answer;
-    let session = read.session;
-    let mw = read.mw;
-    let holder = and(number_of(answer), read.holder as u64);
-    let direction = and(holder, read.direction as u64);
-    and_five(and(direction, session.0 as u64), mw)
-}
-
-fn of_confirmed(read: ConfirmedRead) -> Numbers {
-    let answer = read.answer;
-    let mw = read.mw;
-    and_five(number_of(answer), mw)
+#[derive(Clone, Copy)]
+pub enum Reply {
+    // With the day of the book.
+    Opening(Answer, Day),
+    Call(CallKind, Answer),
+    Left(Result<LeftRead, Refusal>),
+    Right(Result<RightRead, Refusal>),
+    Confirmed(Result<[u32; 5], Refusal>),
 }
 
 // By the kind of the line.
-pub fn read(book: &Book, kind: usize, given: [u64; 10]) -> Numbers {
+pub fn read(book: &Book, kind: ReadKind, given: [u64; 10]) -> Reply
+    ensures { ReadsLine book.now kind given result }
+{
+    let [first, second, third, ..] = given;
     match kind {
-        rehearse_lines::LEFT => of_left(left_of_direction(book, given)),
-        rehearse_lines::LEFT_OF_PROFILE => of_left(left_of_profile(book, given)),
-        rehearse_lines::RIGHT => of_right(right(book, given)),
-        _ => of_confirmed(confirmed(book, given)),
+        ReadKind::Left => {
+            let hour = Hour(kept(second));
+            Reply::Left(daybook::left_of_direction(book, kept(first), hour))
+        }
+        ReadKind::LeftOfProfile => {
+            let hour = Hour(kept(second));
+            Reply::Left(daybook::left_of_profile(book, kept(first), hour))
+        }
+        ReadKind::Right => Reply::Right(daybook::right_at(book, kept(first))),
+        ReadKind::Confirmed => {
+            let (out, into) = (kept(second), kept(third));
+            Reply::Confirmed(daybook::confirmed_of(book, kept(first), out, into))
+        }
+    }
+}
+
+// ---- the numbers of a reply
+
+fn of_call(answer: Answer) -> Numbers {
+    let said = daybook::numbers(answer);
+    Numbers::from([
+        u64::from(said.number),
+        u64::from(said.first),
+        u64::from(said.second),
+    ])
+}
+
+// The number of a refusal, which stands before zeros in a read.
+fn number_of(refusal: Refusal) -> u64 {
+    u64::from(daybook::numbers(Err(refusal)).number)
+}
+
+fn and_mw(before: Numbers, mw: [u32; 5]) -> Numbers {
+    mw.iter()
+        .fold(before, |numbers, each| numbers.and(u64::from(*each)))
+}
+
+fn of_left(read: LeftRead) -> Numbers {
+    Numbers::from([0, u64::from(read.left), u64::from(read.shortfall)])
+}
+
+fn of_right(read: RightRead) -> Numbers {
+    let row = Numbers::from([
+        0,
+        u64::from(read.holder),
+        u64::from(read.direction),
+        u64::from(read.session.0),
+    ]);
+    and_mw(row, read.mw)
+}
+
+impl Reply {
+    // 0 for granted or the number of the refusal, and what it names.
+    pub fn numbers(self) -> Numbers {
+        match self {
+            Reply::Opening(answer, _) => of_call(answer),
+            Reply::Call(_, answer) => of_call(answer),
+            Reply::Left(Ok(read)) => of_left(read),
+            Reply::Left(Err(refusal)) => Numbers::from([number_of(refusal), 0, 0]),
+            Reply::Right(Ok(read)) => of_right(read),
+            Reply::Right(Err(refusal)) => {
+                Numbers::from([number_of(refusal), 0, 0, 0, 0, 0, 0, 0, 0])
+            }
+            Reply::Confirmed(Ok(mw)) => and_mw(Numbers::from([0]), mw),
+            Reply::Confirmed(Err(refusal)) => { Numbers::from([number_of(refusal), 0, 0, 0, 0, 0]) }
+        }
     }
 }

@@ -1,5 +1,8 @@
 -- The search for a standing right is the rules' search, a bid's entry is full where 13 applies, and its right, raised or new, is the right of the rules.
 -- Assumes nothing.
+use Rattle.std.specs.Prelude.{Option, Some, None, Result, Ok, Err}
+use Rattle.rules.specs.declared.Refusal.{Refusal}
+use Rattle.rules.specs.declared.Refusal.TheVariants.{Full}
 use Prim.Native.Nat.{ℕ, ◌+◌, ◌*◌, ◌≤◌, ◌<◌}
 use mathlib.Core.Path.{◌≡◌, refl, sym, ap, ◌∙◌}
 use mathlib.Core.Bool.{Bool, true, false, cond, ◌||◌, ◌&&◌, not, true≢false}
@@ -9,7 +12,7 @@ use lib.Dec.{leb, ltb, eqb}
 use lib.ListN.{length, set}
 use borrow.Author.Tests.{leb-false}
 use Rattle.rules.specs.Basics.{no_mw}
-use Rattle.rules.specs.Book.{Right, right_limit}
+use Rattle.rules.specs.Book.{Book, Right, right_limit}
 use Rattle.rules.specs.Bids.{is_right_of, right_taken, added_right, with_right, right_from, right_number}
 use Rattle.cells.specs.Layout.{CELLS, RIGHTS}
 use Rattle.cells.specs.View.{counted, right_at, rights_in, book_of}
@@ -19,11 +22,7 @@ use Rattle.stores.proofs.Firsts.{place_of, place_le, some_is, changed_there, cha
 use Rattle.stores.proofs.Tables.{right_more, length-row}
 use Rattle.stores.proofs.Raised.{right_raised, length-five}
 use Rattle.cells.proofs.Views.{right_count, right_at_lem}
-use Rattle.cells.specs.declared.Found.{Found}
-use Rattle.cells.specs.declared.Found.TheVariants.{At, Nothing}
-use Rattle.rights.specs.declared.Entry.{Entry}
-use Rattle.rights.specs.declared.Entry.TheVariants.{Full, Room, Standing}
-use Rattle.rights.specs.Work.{standing_right, right_for, entry_of, entry_in, is_full, Enters, NewRight, Booked}
+use Rattle.rights.specs.Work.{standing_right, right_for, entry_of, entry_in, Enters, NewRight, Booked}
 
 -- ---- the search
 
@@ -31,16 +30,16 @@ abbrev place : List ℕ → ℕ → ℕ → ℕ → ℕ
 place b h d s = place_of (is_right_of h d s) (book_of b).rights
 
 -- a standing right was found, or none
-found_at : (b : List ℕ) (h d s i : ℕ) → standing_right b h d s ≡ At i → (i ≡ place b h d s) × (i < counted b RIGHTS right_limit)
+found_at : (b : List ℕ) (h d s i : ℕ) → standing_right b h d s ≡ Some i → (i ≡ place b h d s) × (i < counted b RIGHTS right_limit)
 unfolding standing_right book_of rights_in
 found_at b h d s i e = first_at (is_right_of h d s) (right_at b) (counted b RIGHTS right_limit) i e
 
-found_none : (b : List ℕ) (h d s : ℕ) → standing_right b h d s ≡ Nothing → length (book_of b).rights ≤ place b h d s
+found_none : (b : List ℕ) (h d s : ℕ) → standing_right b h d s ≡ None → length (book_of b).rights ≤ place b h d s
 unfolding standing_right book_of rights_in
 found_none b h d s e = rw (right_count b) (first_none (is_right_of h d s) (right_at b) (counted b RIGHTS right_limit) e)
 
 -- it depends on the rights alone
-standing_is : (b : List ℕ) (h d s : ℕ) → standing_right b h d s ≡ cond (ltb (place b h d s) (length (book_of b).rights)) (At (place b h d s)) Nothing
+standing_is : (b : List ℕ) (h d s : ℕ) → standing_right b h d s ≡ cond (ltb (place b h d s) (length (book_of b).rights)) (Some (place b h d s)) None
 unfolding standing_right book_of rights_in
 standing_is b h d s = rw (right_count b) (found_is (is_right_of h d s) (right_at b) (counted b RIGHTS right_limit))
 
@@ -49,66 +48,78 @@ taken_is b h d s = right_taken_lem h d s (book_of b).rights ∙ some_is (is_righ
 
 -- ---- the entry
 
--- it is full where 13 applies
+-- it is refused where 13 applies
+refused : Result (Option ℕ) Refusal → Bool
+refused (Ok e) = false
+refused (Err r) = true
+
 full_is : (b : List ℕ) (model h d s : ℕ)
-    → is_full (entry_in b model h d s) ≡ (leb right_limit (length (book_of b).rights) && (eqb model 1 || not (right_taken h d s (book_of b).rights)))
-unfolding entry_in right_for
+    → refused (entry_in b model h d s) ≡ (leb right_limit (length (book_of b).rights) && (eqb model 1 || not (right_taken h d s (book_of b).rights)))
+unfolding entry_in right_for refused
 full_is b model h d s =
     rw (standing_is b h d s, taken_is b h d s, ← right_count b) (go (leb right_limit (length (book_of b).rights)) (eqb model 1) (ltb (place b h d s) (length (book_of b).rights)))
   where
-    go : (p m t : Bool) → is_full (cond p (entry_of (cond m Nothing (cond t (At (place b h d s)) Nothing))) Room) ≡ (p && (m || not t))
+    go : (p m t : Bool) → refused (cond p (entry_of (cond m None (cond t (Some (place b h d s)) None))) (Ok None)) ≡ (p && (m || not t))
     go false m t = refl
     go true true t = refl
     go true false true = refl
     go true false false = refl
 
-pub full_told : (b : List ℕ) (model h d s : ℕ) {e : Entry} {x : Bool} → e ≡ entry_in b model h d s → is_full e ≡ x
-    → (leb right_limit (length (book_of b).rights) && (eqb model 1 || not (right_taken h d s (book_of b).rights))) ≡ x
-full_told b model h d s q f = sym (full_is b model h d s) ∙ ap is_full (sym q) ∙ f
+abbrev pub IsFull : Book → ℕ → ℕ → ℕ → ℕ → Bool
+IsFull b model h d s = leb right_limit (length b.rights) && (eqb model 1 || not (right_taken h d s b.rights))
 
--- what the code's test for a full table leaves
-pub not_full : (e : Entry) → (e ≡ Full → ⊥) → is_full e ≡ false
-not_full Full h = absurd (h refl)
-not_full Room h = refl
-not_full (Standing i) h = refl
+pub full_refused : (b : List ℕ) (model h d s : ℕ) {r : Refusal} → Err r ≡ entry_in b model h d s → IsFull (book_of b) model h d s ≡ true
+unfolding refused
+full_refused b model h d s q = sym (full_is b model h d s) ∙ ap refused (sym q)
+
+pub full_passed : (b : List ℕ) (model h d s : ℕ) {e : Option ℕ} → Ok e ≡ entry_in b model h d s → IsFull (book_of b) model h d s ≡ false
+unfolding refused
+full_passed b model h d s q = sym (full_is b model h d s) ∙ ap refused (sym q)
+
+-- the refusal is 13's
+pub refused_full : (b : List ℕ) (model h d s : ℕ) {r : Refusal} → Err r ≡ entry_in b model h d s → r ≡ Full
+unfolding entry_in
+refused_full b model h d s {r} q = go (leb right_limit (counted b RIGHTS right_limit)) (right_for b model h d s) q
+  where
+    go : (t : Bool) (f : Option ℕ) → Err r ≡ cond t (entry_of f) (Ok None) → r ≡ Full
+    go true (Some j) z = absurd (let n : ◌≡◌ {A = ℕ} 0 1 = cc in omega arith)
+    go true None z = cc
+    go false f z = absurd (let n : ◌≡◌ {A = ℕ} 0 1 = cc in omega arith)
 
 -- it depends on the rights alone
-pub enters_still : {b b' : List ℕ} {model h d s : ℕ} {e : Entry} → (book_of b').rights ≡ (book_of b).rights → Enters b model h d s e → Enters b' model h d s e
+pub enters_still : {b b' : List ℕ} {model h d s : ℕ} {e : Option ℕ} → (book_of b').rights ≡ (book_of b).rights → Enters b model h d s e → Enters b' model h d s e
 unfolding entry_in right_for
 enters_still {b} {b'} {model} {h} {d} {s} r k =
-    record {
-      entry_is = k.entry_is ∙ rw (standing_is b h d s, standing_is b' h d s, ← right_count b, ← right_count b', r);
-      free = k.free;
-    }
+    record { entry_is = k.entry_is ∙ rw (standing_is b h d s, standing_is b' h d s, ← right_count b, ← right_count b', r) }
 
-module _ {b : List ℕ} {model h d s : ℕ} {e : Entry} (k : Enters b model h d s e) where
+module _ {b : List ℕ} {model h d s : ℕ} {e : Option ℕ} (k : Enters b model h d s e) where
   -- the right that the verdict found
-  pub entered_at : (i : ℕ) → e ≡ Standing i → right_for b model h d s ≡ At i
+  pub entered_at : (i : ℕ) → e ≡ Some i → right_for b model h d s ≡ Some i
   unfolding entry_in
-  entered_at i q = go (leb right_limit (counted b RIGHTS right_limit)) (right_for b model h d s) (sym k.entry_is ∙ q)
+  entered_at i q = go (leb right_limit (counted b RIGHTS right_limit)) (right_for b model h d s) (let there = rw q at k.entry_is in sym there)
     where
-      go : (t : Bool) (f : Found) → cond t (entry_of f) Room ≡ Standing i → f ≡ At i
-      go true (At j) z = cc
-      go true Nothing z = absurd (let n : ◌≡◌ {A = ℕ} 0 1 = cc in omega arith)
+      go : (t : Bool) (f : Option ℕ) → cond t (entry_of f) (Ok None) ≡ Ok (Some i) → f ≡ Some i
+      go true (Some j) z = cc
+      go true None z = absurd (let n : ◌≡◌ {A = ℕ} 0 1 = cc in omega arith)
       go false f z = absurd (let n : ◌≡◌ {A = ℕ} 0 1 = cc in omega arith)
 
   -- a bid that no right takes has room for a new one
-  pub has_room : right_for b model h d s ≡ Nothing → counted b RIGHTS right_limit < right_limit
+  pub has_room : right_for b model h d s ≡ None → counted b RIGHTS right_limit < right_limit
   unfolding entry_in
   has_room n = go (leb right_limit (counted b RIGHTS right_limit)) refl
     where
       go : (t : Bool) → leb right_limit (counted b RIGHTS right_limit) ≡ t → counted b RIGHTS right_limit < right_limit
-      go true t = absurd (true≢false (rw (k.entry_is, t, n) at k.free))
+      go true t = absurd (let z : ◌≡◌ {A = ℕ} 0 1 = (let q = rw (t, n) at k.entry_is in cc) in omega arith)
       go false t = leb-false right_limit (counted b RIGHTS right_limit) t
 
 -- ---- the right that takes the MW
 
-module _ (b : List ℕ) (model h d s i : ℕ) (e : right_for b model h d s ≡ At i) where
-  stands : (eqb model 1 ≡ false) × (standing_right b h d s ≡ At i)
+module _ (b : List ℕ) (model h d s i : ℕ) (e : right_for b model h d s ≡ Some i) where
+  stands : (eqb model 1 ≡ false) × (standing_right b h d s ≡ Some i)
   unfolding right_for
   stands = go (eqb model 1) e
     where
-      go : (t : Bool) → cond t Nothing (standing_right b h d s) ≡ At i → (t ≡ false) × (standing_right b h d s ≡ At i)
+      go : (t : Bool) → cond t None (standing_right b h d s) ≡ Some i → (t ≡ false) × (standing_right b h d s ≡ Some i)
       go true z = absurd (let n : ◌≡◌ {A = ℕ} 0 1 = cc in omega arith)
       go false z = (refl, z)
 
@@ -122,12 +133,12 @@ module _ (b : List ℕ) (model h d s : ℕ) (mw : List ℕ) where
   new = record { holder = h; direction = d; session = s; mw = mw }
 
   -- where no right takes the MW
-  module _ (n : right_for b model h d s ≡ Nothing) where
+  module _ (n : right_for b model h d s ≡ None) where
     new_right : with_right model h d s mw (book_of b).rights ≡ (book_of b).rights ++ (new ∷ [])
     unfolding with_right right_for
     new_right = go (eqb model 1) n
       where
-        go : (t : Bool) → cond t Nothing (standing_right b h d s) ≡ Nothing → cond t ((book_of b).rights ++ (new ∷ [])) (added_right h d s mw (book_of b).rights) ≡ (book_of b).rights ++ (new ∷ [])
+        go : (t : Bool) → cond t None (standing_right b h d s) ≡ None → cond t ((book_of b).rights ++ (new ∷ [])) (added_right h d s mw (book_of b).rights) ≡ (book_of b).rights ++ (new ∷ [])
         go true e = refl
         go false e = added_right_lem h d s mw (book_of b).rights ∙ changed_new (is_right_of h d s) (raised mw) new (book_of b).rights (found_none b h d s e)
 
@@ -135,7 +146,7 @@ module _ (b : List ℕ) (model h d s : ℕ) (mw : List ℕ) where
     unfolding right_number right_for
     new_number = go (eqb model 1) n
       where
-        go : (t : Bool) → cond t Nothing (standing_right b h d s) ≡ Nothing → cond t (length (book_of b).rights) (right_from h d s (book_of b).rights) ≡ length (book_of b).rights
+        go : (t : Bool) → cond t None (standing_right b h d s) ≡ None → cond t (length (book_of b).rights) (right_from h d s (book_of b).rights) ≡ length (book_of b).rights
         go true e = refl
         go false e =
             let l = found_none b h d s e in
@@ -155,7 +166,7 @@ module _ (b : List ℕ) (model h d s : ℕ) (mw : List ℕ) where
         }
 
   -- where right i takes them
-  module _ (i : ℕ) (e : right_for b model h d s ≡ At i) where
+  module _ (i : ℕ) (e : right_for b model h d s ≡ Some i) where
     pub raised_books : length b ≡ CELLS → length mw ≡ 5 → Booked b model h d s mw i (added_five (RIGHTS + 4 + i * 8) mw b)
     unfolding with_right right_number
     raised_books u size =

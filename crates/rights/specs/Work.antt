@@ -1,48 +1,40 @@
 -- What the searches in the table of rights find, and what a granted bid leaves there.
 -- Assumes nothing.
-use Rattle.std.specs.Prelude.{ℕ, ◌<◌, ◌≡◌, Bool, true, false, cond, List, ◌∷◌, eqb, leb, length}
+use Rattle.std.specs.Prelude.{ℕ, ◌<◌, ◌≡◌, Bool, true, false, cond, List, ◌∷◌, eqb, leb, length, Option, Some, None, Result, Ok, Err}
 use Rattle.rules.specs.Book.{right_limit}
+use Rattle.rules.specs.declared.Refusal.{Refusal}
+use Rattle.rules.specs.declared.Refusal.TheVariants.{Full}
 use Rattle.rules.specs.Bids.{is_right_of, with_right, right_number}
 use Rattle.cells.specs.Layout.{CELLS, RIGHTS}
 use Rattle.cells.specs.Search.{first_row}
-use Rattle.cells.specs.declared.Found.{Found}
-use Rattle.cells.specs.declared.Found.TheVariants.{At, Nothing}
 use Rattle.cells.specs.View.{counted, right_at, book_of, Cells}
 use Rattle.stores.specs.Stores.{with_row}
 use Rattle.cells.specs.Updates.{with_rights}
-use Rattle.rights.specs.declared.Entry.{Entry}
-use Rattle.rights.specs.declared.Entry.TheVariants.{Full, Room, Standing}
 
 -- ---- the standing right
 
 -- the first right of a holder, direction and session
-unfoldable pub standing_right : List ℕ → ℕ → ℕ → ℕ → Found
+unfoldable pub standing_right : List ℕ → ℕ → ℕ → ℕ → Option ℕ
 standing_right b h d s = first_row (is_right_of h d s) (right_at b) (counted b RIGHTS right_limit)
 
 -- the right that takes the MW of a bid: none in the one-hour model
-unfoldable pub right_for : List ℕ → ℕ → ℕ → ℕ → ℕ → Found
-right_for b model h d s = cond (eqb model 1) Nothing (standing_right b h d s)
+unfoldable pub right_for : List ℕ → ℕ → ℕ → ℕ → ℕ → Option ℕ
+right_for b model h d s = cond (eqb model 1) None (standing_right b h d s)
 
 -- ---- the entry of a bid
 
 -- in a full table: the right found, or no room
-abbrev pub entry_of : Found → Entry
-entry_of (At i) = Standing i
-entry_of Nothing = Full
+abbrev pub entry_of : Option ℕ → Result (Option ℕ) Refusal
+entry_of (Some i) = Ok (Some i)
+entry_of None = Err Full
 
 -- in a full table the right that takes the MW; with room nothing is searched
-unfoldable pub entry_in : List ℕ → ℕ → ℕ → ℕ → ℕ → Entry
-entry_in b model h d s = cond (leb right_limit (counted b RIGHTS right_limit)) (entry_of (right_for b model h d s)) Room
-
-abbrev pub is_full : Entry → Bool
-is_full Full = true
-is_full Room = false
-is_full (Standing i) = false
+unfoldable pub entry_in : List ℕ → ℕ → ℕ → ℕ → ℕ → Result (Option ℕ) Refusal
+entry_in b model h d s = cond (leb right_limit (counted b RIGHTS right_limit)) (entry_of (right_for b model h d s)) (Ok None)
 
 -- the entry of a bid that 13 does not refuse
-pub record Enters (b : List ℕ) (model h d s : ℕ) (e : Entry) : Type 0 where
-  pub entry_is : e ≡ entry_in b model h d s
-  pub free : is_full e ≡ false
+pub record Enters (b : List ℕ) (model h d s : ℕ) (e : Option ℕ) : Type 0 where
+  pub entry_is : Ok e ≡ entry_in b model h d s
 
 -- ---- the right of a granted bid
 

@@ -8,129 +8,100 @@ ghost use Rattle.cells.specs.Layout.{RIGHTS};
 ghost use Rattle.cells.specs.View.{counted, right_at};
 ghost use Rattle.rights.specs.Work.{standing_right, right_for, entry_in, Enters, NewRight, Booked};
 
-use cells::{Book, Found};
-use rules::Session;
-
-// What a bid finds in the table of rights: no room for it, room for a right more, or in a full table the right that takes its MW.
-#[derive(Clone, Copy)]
-pub enum Entry {
-    Full,
-    Room,
-    Standing(u32),
-}
+use cells::Book;
+use rules::Refusal;
+use tables::RightKey;
 
 // ---- the standing right
 
-fn same_right(book: &Book, right: u16, holder: u8, direction: u8, session: Session) -> bool
-    requires { right < right_limit }
-    ensures { result ≡ is_right_of holder direction session.0 (right_at book.now right) }
+fn has_key(book: &Book, i: u32, key: RightKey) -> bool
+    requires { i < right_limit }
+    ensures { result ≡ is_right_of key.holder key.direction key.session.0 (right_at book.now i) }
 {
-    if tables::right_holder(book, right) != holder {
-        return false;
-    }
-    if tables::right_direction(book, right) != direction {
-        return false;
-    }
-    let stands = tables::right_session(book, right);
-    stands.0 == session.0
+    tables::right_key(book, i as u16) == key
 }
 
-// The first right of a holder, direction and session.
-fn standing(book: &Book, holder: u8, direction: u8, session: Session) -> Found
-    ensures { result ≡ standing_right book.now holder direction session.0 }
+// The first right with the key.
+fn standing(book: &Book, key: RightKey) -> Option<u32>
+    ensures { result ≡ standing_right book.now key.holder key.direction key.session.0 }
 {
-    let count = cells::count_in(book, cells::RIGHTS, cells::RIGHT_LIMIT);
-    for i in 0..count {
-        if same_right(book, i as u16, holder, direction, session) {
-            return Found::At(i);
-        }
-    }
-    Found::Nothing
+    let count = cells::RIGHTS.count(book);
+    (0..count).find(|&i| has_key(book, i, key))
 }
 
 // The right that takes the MW of a bid: none in the one-hour model.
-fn right_for(book: &Book, model: u32, holder: u8, direction: u8, session: Session) -> Found
-    ensures { result ≡ right_for book.now model holder direction session.0 }
+fn right_for(book: &Book, model: u32, key: RightKey) -> Option<u32>
+    ensures { result ≡ right_for book.now model key.holder key.direction key.session.0 }
 {
     if model == 1 {
-        return Found::Nothing;
+        return None;
     }
-    standing(book, holder, direction, session)
+    standing(book, key)
 }
 
 // ---- the entry of a bid
 
+// What a bid finds in the table: a full one with no right that takes its MW, such a right in a full one, or room for a right more.
 // Only a full table is searched: with room the bid may still be short.
-pub fn entry_of(book: &Book, model: u32, holder: u8, direction: u8, session: Session) -> Entry
-    ensures { result ≡ entry_in book.now model holder direction session.0 }
+pub fn entry_of(book: &Book, model: u32, key: RightKey) -> Result<Option<u32>, Refusal>
+    ensures { result ≡ entry_in book.now model key.holder key.direction key.session.0 }
 {
-    if cells::count_in(book, cells::RIGHTS, cells::RIGHT_LIMIT) < cells::RIGHT_LIMIT {
-        return Entry::Room;
+    if !cells::RIGHTS.is_full(book) {
+        return Ok(None);
     }
-    let Found::At(i) = right_for(book, model, holder, direction, session) else {
-        return Entry::Full;
+    let Some(i) = right_for(book, model, key) else {
+        return Err(Refusal::Full);
     };
-    Entry::Standing(i)
+    Ok(Some(i))
 }
 
 // ---- the right of a granted bid
 
 // A new right with the MW of a bid: its number.
-fn open_right(book: &mut Book, holder: u8, direction: u8, session: Session, mw: [u16; 5]) -> u32
+fn open_right(book: &mut Book, key: RightKey, mw: [u16; 5]) -> u32
     requires { counted book.old RIGHTS right_limit < right_limit }
-    ensures { NewRight book.old holder direction session.0 mw result book.new }
+    ensures { NewRight book.old key.holder key.direction key.session.0 mw result book.new }
 {
     cells::cells_in(book);
-    let count = cells::count_in(book, cells::RIGHTS, cells::RIGHT_LIMIT);
     let row = [
-        holder as u32,
-        direction as u32,
-        session.0 as u32,
+        key.holder as u32,
+        key.direction as u32,
+        key.session.0 as u32,
         mw[0] as u32,
         mw[1] as u32,
         mw[2] as u32,
         mw[3] as u32,
         mw[4] as u32,
     ];
-    stores::add_row(book, cells::RIGHTS, count, &row);
-    count
+    stores::add_row(book, cells::RIGHTS, &row)
 }
 
 // The right that takes the MW: as the verdict found it, or searched now where the table has room.
-fn right_by_entry(
-    book: &Book,
-    entry: Entry,
-    model: u32,
-    holder: u8,
-    direction: u8,
-    session: Session,
-) -> Found
-    requires { Enters book.now model holder direction session.0 entry }
-    ensures { result ≡ right_for book.now model holder direction session.0 }
+fn right_by_entry(book: &Book, entry: Option<u32>, model: u32, key: RightKey) -> Option<u32>
+    requires { Enters book.now model key.holder key.direction key.session.0 entry }
+    ensures { result ≡ right_for book.now model key.holder key.direction key.session.0 }
 {
-    let Entry::Standing(i) = entry else {
-        return right_for(book, model, holder, direction, session);
+    let Some(i) = entry else {
+        return right_for(book, model, key);
     };
-    Found::At(i)
+    Some(i)
 }
 
 // The right of a granted bid: the standing one takes its MW, or else a new one does.
 pub fn book_right(
     book: &mut Book,
-    entry: Entry,
+    entry: Option<u32>,
     model: u32,
-    holder: u8,
-    direction: u8,
-    session: Session,
+    key: RightKey,
     mw: [u16; 5],
 ) -> u32
-    requires { Enters book.old model holder direction session.0 entry }
-    ensures { Booked book.old model holder direction session.0 mw result book.new }
+    requires { Enters book.old model key.holder key.direction key.session.0 entry }
+    ensures { Booked book.old model key.holder key.direction key.session.0 mw result book.new }
 {
     cells::cells_in(book);
-    let Found::At(i) = right_by_entry(book, entry, model, holder, direction, session) else {
-        return open_right(book, holder, direction, session, mw);
+    let Some(i) = right_by_entry(book, entry, model, key) else {
+        return open_right(book, key, mw);
     };
-    capacity::add_five(book, cells::RIGHTS + 4 + i as usize * 8, mw);
+    capacity::add_five(book, cells::RIGHTS.row(i) + 3, mw);
     i
 }

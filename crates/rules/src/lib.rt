@@ -1,7 +1,8 @@
 // The types that the day book's crates share. The rules of documents 01 and 02 over them stand in specs/, what follows from them in proofs/.
 #![tactic(auto)]
 
-ghost use Rattle.std.specs.Prelude.{◌≡◌, ◌-◌};
+ghost use Rattle.std.specs.Prelude.{◌≡◌};
+ghost use Rattle.rules.specs.Basics.{bit};
 
 // The last minute that the clock counts.
 pub const LATEST: u32 = 2999;
@@ -10,15 +11,15 @@ pub const LATEST: u32 = 2999;
 pub const MOST_MW: u16 = 9999;
 
 // A session's number. Only the session rule turns it into an hour.
-#[derive(Clone, Copy)]
+#[derive(Clone, Copy, PartialEq, Eq)]
 pub struct Session(pub u8);
 
 // An hour's position in the day, from 1.
-#[derive(Clone, Copy)]
+#[derive(Clone, Copy, PartialEq, Eq)]
 pub struct Hour(pub u8);
 
 // Where a time stands to a window: before its opening, within it, at or after its end.
-#[derive(Clone, Copy)]
+#[derive(Clone, Copy, PartialEq, Eq)]
 pub enum Timing {
     Early,
     Within,
@@ -26,16 +27,15 @@ pub enum Timing {
 }
 
 // What is short in an hour: the bid's direction, or a profile that holds it, by number.
-#[derive(Clone, Copy)]
+#[derive(Clone, Copy, PartialEq, Eq)]
 pub enum CapacityOf {
     Direction,
     Profile(u8),
 }
 
-// The answer to a call: granted with its detail, or a refusal by its trade word. The refusals stand in the order in which they are asked.
-#[derive(Clone, Copy)]
-pub enum Answer {
-    Granted(u32),
+// A refusal by its trade word. They stand in the order in which they are asked.
+#[derive(Clone, Copy, PartialEq, Eq)]
+pub enum Refusal {
     Record,
     Date,
     Field,
@@ -53,8 +53,11 @@ pub enum Answer {
     Short(Hour, CapacityOf),
 }
 
+// The answer to a call: granted with its detail, or refused.
+pub type Answer = Result<u32, Refusal>;
+
 // An answer's number, 0 for granted, and its two details.
-#[derive(Clone, Copy)]
+#[derive(Clone, Copy, PartialEq, Eq)]
 pub struct ReplyNumbers {
     pub number: u8,
     pub first: u32,
@@ -62,7 +65,8 @@ pub struct ReplyNumbers {
 }
 
 // The call of a record: its kind, 1 to 5, and its fields; a field that the kind lacks is 0.
-#[derive(Clone, Copy)]
+// The kind is any byte, and every field is there: the writer promises a refusal for a kind or a foreign field that doesn't fit, and a narrower type couldn't hold them.
+#[derive(Clone, Copy, PartialEq, Eq)]
 pub struct CallRecord {
     pub kind: u8,
     pub time: u16,
@@ -77,9 +81,9 @@ pub struct CallRecord {
     pub hour: Hour,
 }
 
-// The difference, or 0.
-pub fn less(a: u32, b: u32) -> u32
-    ensures { result ≡ a - b }
+// A bit of a map; past its 32 bits there are none.
+pub fn has_bit(map: u32, at: u32) -> bool
+    ensures { result ≡ bit map at }
 {
-    if b <= a { a - b } else { 0 }
+    at < 32 && (map >> at) % 2 == 1
 }

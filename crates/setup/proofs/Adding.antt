@@ -1,5 +1,6 @@
 -- Calls that add an entry: the numbers that can refuse them, and the promise of one that is granted, whose row more is the rules' entry more.
 -- Assumes nothing.
+use Rattle.std.specs.Prelude.{Ok}
 use Prim.Native.Nat.{ℕ, ◌<◌}
 use mathlib.Core.Path.{◌≡◌, refl, sym, ap, subst, ◌∙◌}
 use mathlib.Core.Bool.{Bool, true, false, ◌||◌}
@@ -10,45 +11,34 @@ use borrow.Author.Tests.{eq-eqb, leb-false}
 use Rattle.rules.specs.Basics.{has}
 use Rattle.rules.specs.Book.{Book, direction_limit, party_limit, profile_limit}
 use Rattle.rules.specs.Calls.{Call, AddDirection, AddProfile, AddParty}
-use Rattle.rules.specs.Said.{said}
 use Rattle.rules.specs.Refusals.{order, first_of, refuses, number, clock, unknown, taken, timing_of, wrong_hours, no_access, not_owner, cycle, full, shortage_of}
 use Rattle.rules.specs.Effects.{is_timed, clock_after, directions_after, profiles_after, parties_after, offered_after, granted_after, rights_after, pairs_after, matched_after, effect}
 use Rattle.rules.specs.Details.{detail}
-use Rattle.rules.specs.declared.Answer.{Answer}
-use Rattle.rules.specs.declared.Answer.TheVariants.{Granted}
 use Rattle.rules.proofs.Decisions.{is_granted, fails}
 use Rattle.cells.specs.Layout.{CELLS, DIRECTIONS, PROFILES, PARTIES}
-use Rattle.cells.specs.View.{book_of, counted}
+use Rattle.cells.specs.View.{Cells, book_of, counted}
 use Rattle.stores.specs.Stores.{with_row}
 use Rattle.cells.specs.Updates.{with_directions, with_profiles, with_parties}
 use Rattle.stores.proofs.Tables.{direction_more, profile_more, party_more}
 use Rattle.cells.proofs.Views.{direction_count, profile_count, party_count}
-use Rattle.answers.specs.Promises.{Judged, Answers}
-use Rattle.answers.specs.declared.Verdict.{Verdict}
-use Rattle.answers.specs.declared.Verdict.TheVariants.{Clear, No}
-use Rattle.answers.proofs.Laws.{Left, refused, granted}
-use Rattle.setup.specs.Work.{Entered}
+use Rattle.answers.specs.Promises.{Answers}
+use Rattle.answers.proofs.Laws.{Left, granted}
 
 -- ---- the numbers that can apply
 
-pub record Lefts (b : Book) : Type 0 where
-  pub direction : (o i m : ℕ) → Left b (AddDirection o i m) (3 ∷ 4 ∷ 7 ∷ 13 ∷ [])
-  pub profile : (map : ℕ) → Left b (AddProfile map) (3 ∷ 4 ∷ 6 ∷ 13 ∷ [])
-  pub party : (code : List ℕ) (access : ℕ) → Left b (AddParty code access) (3 ∷ 4 ∷ 7 ∷ 13 ∷ [])
-
-pub lefts : (b : Book) → Lefts b
+pub direction_left : (b : List ℕ) (o i m : ℕ) → Left (book_of b) (AddDirection o i m) (3 ∷ 4 ∷ 7 ∷ 13 ∷ [])
 unfolding first_of order refuses clock unknown taken timing_of wrong_hours no_access not_owner cycle shortage_of
-lefts b =
-    record {
-      direction = λ o i m. record { number_is = refl };
-      profile = λ map. record { number_is = refl };
-      party = λ code access. record { number_is = refl };
-    }
+direction_left b o i m = record { number_is = refl }
+
+pub profile_left : (b : List ℕ) (map : ℕ) → Left (book_of b) (AddProfile map) (3 ∷ 4 ∷ 6 ∷ 13 ∷ [])
+unfolding first_of order refuses clock unknown taken timing_of wrong_hours no_access not_owner cycle shortage_of
+profile_left b map = record { number_is = refl }
+
+pub party_left : (b code : List ℕ) (access : ℕ) → Left (book_of b) (AddParty code access) (3 ∷ 4 ∷ 7 ∷ 13 ∷ [])
+unfolding first_of order refuses clock unknown taken timing_of wrong_hours no_access not_owner cycle shortage_of
+party_left b code access = record { number_is = refl }
 
 -- ---- from a verdict to the promise
-
-pub answers_no : (b : List ℕ) (c : Call) (a : Answer) {v : Verdict} → v ≡ No a → Judged (book_of b) c v → Answers b c a b
-answers_no b c a e j = refused b c a (subst (Judged (book_of b) c) e j)
 
 -- what a call says of the table that it adds a row to
 pub record Adds (b : List ℕ) (c : Call) (table limit : ℕ) (row : List ℕ) : Type 0 where
@@ -56,19 +46,15 @@ pub record Adds (b : List ℕ) (c : Call) (table limit : ℕ) (row : List ℕ) :
   pub detail_is : detail (book_of b) c ≡ counted b table limit
   pub effect_is : (n : ℕ) → n < limit → length b ≡ CELLS → counted b table limit ≡ n → book_of (with_row table n row b) ≡ effect (book_of b) c
 
-module _ {b : List ℕ} {c : Call} {table limit : ℕ} {row : List ℕ} {v : Verdict} (a : Adds b c table limit row) (e : v ≡ Clear) (j : Judged (book_of b) c v) where
-  nothing_against : number (book_of b) c ≡ 0
-  nothing_against = subst (Judged (book_of b) c) e j
-
+module _ {b : List ℕ} {c : Call} {table limit : ℕ} {row : List ℕ} (a : Adds b c table limit row) (clear : number (book_of b) c ≡ 0) where
   pub room : counted b table limit < limit
   unfolding order has
-  room = leb-false limit (counted b table limit) (sym a.full_is ∙ fails (is_granted (book_of b) c (eq-eqb _ _ nothing_against)) 13 tt)
+  room = leb-false limit (counted b table limit) (sym a.full_is ∙ fails (is_granted (book_of b) c (eq-eqb _ _ clear)) 13 tt)
 
-  pub answers_number : {n : ℕ} {b' : List ℕ} → Entered b table limit row n b' → Answers b c (Granted n) b'
-  answers_number {n} {b'} p =
-      granted b b' c (Granted n) nothing_against
-      (ap (λ (x : ℕ). said (Granted x)) (p.number_is ∙ sym a.detail_is))
-      (ap book_of p.cells_are ∙ a.effect_is n (rw p.number_is room) p.cells.count (sym p.number_is))
+  -- the row after the last one is stored
+  pub answers_number : {n : ℕ} {b' : List ℕ} → Cells b → n ≡ counted b table limit → b' ≡ with_row table n row b → Answers b c (Ok n) b'
+  answers_number {n} {b'} cells number_is cells_are =
+      granted b b' c n clear (number_is ∙ sym a.detail_is) (ap book_of cells_are ∙ a.effect_is n (rw number_is room) cells.count (sym number_is))
 
 -- ---- each table
 
@@ -113,3 +99,8 @@ adds_party b code row access size is =
       detail_is = party_count b;
       effect_is = λ n l u e. rw is (party_more b n code access l u size e ∙ (effects (book_of b)).party code access);
     }
+
+-- the table of parties is full
+pub party_full : (b code : List ℕ) (access : ℕ) → refuses (book_of b) (AddParty code access) 13 ≡ leb party_limit (counted b PARTIES party_limit)
+unfolding refuses full
+party_full b code access = rw (party_count b)

@@ -1,15 +1,11 @@
--- What the parts of set-up promise: an entry that clashes with a new one, and the cells after a row more.
+-- A direction of the table as the rules have it, and one that clashes with a new one.
 -- Assumes nothing.
-use Rattle.std.specs.Prelude.{ℕ, ◌≡◌, Bool, ◌||◌, ◌&&◌, not, List, eqb}
+use Rattle.std.specs.Prelude.{ℕ, Bool, ◌||◌, ◌&&◌, not, eqb}
 use Rattle.rules.specs.Book.{Direction}
-use Rattle.cells.specs.View.{Cells, counted}
-use Rattle.stores.specs.Stores.{with_row}
+use Rattle.tables.specs.declared.Direction.{Direction as TableDirection}
 
--- a row more in a table that has room
-pub record Entered (b : List ℕ) (table limit : ℕ) (row : List ℕ) (n : ℕ) (b' : List ℕ) : Type 0 where
-  pub cells : Cells b
-  pub number_is : n ≡ counted b table limit
-  pub cells_are : b' ≡ with_row table n row b
+abbrev pub direction_of : TableDirection → Direction
+direction_of x = record { out = x.out; into = x.into; model = x.model }
 
 -- the operators of a direction, in order
 abbrev pub same_operators : Direction → ℕ → ℕ → Bool

@@ -1,5 +1,6 @@
 -- The first entry of a table that passes a test: the search for it, and the table with that entry changed or else a new one added.
 -- Assumes nothing.
+use Rattle.std.specs.Prelude.{Some, None}
 use Prim.Native.Nat.{ℕ, zero, suc, ◌+◌, ◌≤◌, ◌<◌}
 use mathlib.Core.Path.{◌≡◌, refl, sym, ap, ◌∙◌}
 use mathlib.Core.Logic.{◌≢◌}
@@ -15,7 +16,6 @@ use Rattle.rules.specs.Bids.{wrap_added, is_right_of, right_taken, added_right, 
 use Rattle.cells.specs.Loops.{each, rows}
 use Rattle.cells.specs.Search.{try_row, first_row}
 use Rattle.cells.specs.View.{cell, counted}
-use Rattle.cells.specs.declared.Found.TheVariants.{At, Nothing}
 use Rattle.cells.proofs.Rows.{rows-set}
 
 module _ {A : Type 0} (t : A → Bool) where
@@ -71,14 +71,14 @@ module _ {A : Type 0} (t : A → Bool) where
 
   -- the search
   module _ (f : ℕ → A) where
-    search_is : (n k : ℕ) → each (try_row t f) n k Nothing ≡ cond (ltb (place_of (rows f n k)) n) (At (k + place_of (rows f n k))) Nothing
+    search_is : (n k : ℕ) → each (try_row t f) n k None ≡ cond (ltb (place_of (rows f n k)) n) (Some (k + place_of (rows f n k))) None
     unfolding each rows place_of try_row
     search_is zero k = refl
     search_is (suc n) k = go (t (f k)) (search_is n (k + 1))
       where
-        go : (s : Bool) → each (try_row t f) n (k + 1) Nothing ≡ cond (ltb (place_of (rows f n (k + 1))) n) (At (k + 1 + place_of (rows f n (k + 1)))) Nothing
-            → cond s (At k) (each (try_row t f) n (k + 1) Nothing)
-            ≡ cond (ltb (cond s 0 (suc (place_of (rows f n (k + 1))))) (suc n)) (At (k + cond s 0 (suc (place_of (rows f n (k + 1)))))) Nothing
+        go : (s : Bool) → each (try_row t f) n (k + 1) None ≡ cond (ltb (place_of (rows f n (k + 1))) n) (Some (k + 1 + place_of (rows f n (k + 1)))) None
+            → cond s (Some k) (each (try_row t f) n (k + 1) None)
+            ≡ cond (ltb (cond s 0 (suc (place_of (rows f n (k + 1))))) (suc n)) (Some (k + cond s 0 (suc (place_of (rows f n (k + 1)))))) None
         go true ih = rw (lt-ltb 0 (suc n) (omega arith), add-zero k)
         go false ih =
             let e : k + suc (place_of (rows f n (k + 1))) ≡ k + 1 + place_of (rows f n (k + 1)) = omega arith in
@@ -89,29 +89,29 @@ module _ {A : Type 0} (t : A → Bool) where
       abbrev first : ℕ
       first = place_of (rows f n 0)
 
-      pub found_is : first_row t f n ≡ cond (ltb first n) (At first) Nothing
+      pub found_is : first_row t f n ≡ cond (ltb first n) (Some first) None
       unfolding first_row
       found_is = search_is n 0 ∙ rw (zero-add first)
 
-      pub first_at : (i : ℕ) → first_row t f n ≡ At i → (i ≡ first) × (i < n)
+      pub first_at : (i : ℕ) → first_row t f n ≡ Some i → (i ≡ first) × (i < n)
       first_at i e = go (ltb first n) refl
         where
           go : (s : Bool) → ltb first n ≡ s → (i ≡ first) × (i < n)
           go true s =
-              let q : At first ≡ At i = rw s at (sym found_is ∙ e) in
+              let q : Some first ≡ Some i = rw s at (sym found_is ∙ e) in
               let r : first ≡ i = cc in
               (sym r, rw (← r) (ltb-true first n s))
           go false s =
-              let q : Nothing ≡ At i = rw s at (sym found_is ∙ e) in
+              let q : None ≡ Some i = rw s at (sym found_is ∙ e) in
               let z : ◌≡◌ {A = ℕ} 0 1 = cc in
               absurd (omega arith)
 
-      pub first_none : first_row t f n ≡ Nothing → n ≤ first
+      pub first_none : first_row t f n ≡ None → n ≤ first
       first_none e = go (ltb first n) refl
         where
           go : (s : Bool) → ltb first n ≡ s → n ≤ first
           go true s =
-              let q : At first ≡ Nothing = rw s at (sym found_is ∙ e) in
+              let q : Some first ≡ None = rw s at (sym found_is ∙ e) in
               let z : ◌≡◌ {A = ℕ} 0 1 = cc in
               absurd (omega arith)
           go false s = ltb-false first n s

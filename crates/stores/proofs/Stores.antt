@@ -33,16 +33,6 @@ part_set b at n i v l u =
     rows-set (cell_from b at) (cell_from (set b (at + i) v) at) n 0 i l (λ j e. get_or-set_other b (at + i) (at + j) v 0 (λ q. e (omega arith)))
     ∙ ap (λ (x : ℕ). set (rows (cell_from b at) n 0) i x) (rw (zero-add i) (get_or-set_same b (at + i) v 0 u))
 
--- five MW, one by one
-pub five_mw : (mw : List ℕ) → length mw ≡ 5 → (get_or mw 0 0 ∷ get_or mw 1 0 ∷ get_or mw 2 0 ∷ get_or mw 3 0 ∷ get_or mw 4 0 ∷ []) ≡ mw
-five_mw [] e = absurd (omega arith)
-five_mw (a ∷ []) e = absurd (omega arith)
-five_mw (a ∷ b ∷ []) e = absurd (omega arith)
-five_mw (a ∷ b ∷ c ∷ []) e = absurd (omega arith)
-five_mw (a ∷ b ∷ c ∷ d ∷ []) e = absurd (omega arith)
-five_mw (a ∷ b ∷ c ∷ d ∷ f ∷ []) e = refl
-five_mw (a ∷ b ∷ c ∷ d ∷ f ∷ g ∷ l) e = absurd (omega arith)
-
 -- ---- the tables
 
 pub offered_set : (b : List ℕ) (i v : ℕ) → i < 800 → length b ≡ CELLS → book_of (set b (OFFERED + i) v) ≡ with_offered (book_of b) (set (book_of b).offered i v)

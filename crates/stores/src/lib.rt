@@ -1,22 +1,22 @@
 // The stores in the cells of a day book that the calls share.
 #![tactic(auto)]
 
-ghost use Rattle.std.specs.Prelude.{◌≡◌, ◌+◌, ◌*◌, ◌<◌, ◌≤◌, length, set};
+ghost use Rattle.std.specs.Prelude.{◌≡◌, ◌+◌, ◌*◌, ◌<◌, ◌≤◌, length, set, MatchOption};
 ghost use Rattle.std.proofs.lemmas.List.Edits.{sets};
 ghost use Rattle.rules.specs.Book.{place, flag, direction_limit};
-ghost use Rattle.cells.specs.Layout.{CELLS, OFFERED, MATCHED};
-ghost use Rattle.cells.specs.View.{InHour};
+ghost use Rattle.cells.specs.Layout.{OFFERED, MATCHED};
+ghost use Rattle.cells.specs.View.{counted};
 ghost use Rattle.stores.specs.Stores.{clocked, emptied, with_row};
 
-use cells::Book;
-use rules::{Hour, Session};
+use calendar::Date;
+use cells::{Book, Place, Table};
+use rules::Session;
 
 // An offer.
-pub fn set_offered(book: &mut Book, row: u8, hour: Hour, mw: u16)
-    requires { InHour row hour.0 }
-    ensures { book.new ≡ set book.old (OFFERED + place row hour.0) mw }
+pub fn set_offered(book: &mut Book, at: Place, mw: u16)
+    ensures { book.new ≡ set book.old (OFFERED + place at.row at.hour.0) mw }
 {
-    book[cells::OFFERED_MW + cells::place_of(row, hour)] = mw as u32;
+    book[cells::OFFERED_MW + at.position()] = mw as u32;
 }
 
 // The session of a direction is matched.
@@ -35,10 +35,15 @@ pub fn set_clock(book: &mut Book, time: u32)
     book[cells::STARTED] = 1;
 }
 
-// An empty book of a day. Without a date year, month and day are 0.
-pub fn clear(book: &mut Book, year: u16, month: u8, day: u8, hours: u8, weekday: u8)
-    ensures { book.new ≡ emptied year month day hours weekday }
+// An empty book of a day; without a date year, month and day are 0.
+pub fn clear(book: &mut Book, date: Option<Date>, hours: u8, weekday: u8)
+    ensures { MatchOption date (book.new ≡ emptied 0 0 0 hours weekday) (λ d. book.new ≡ emptied d.year d.month d.day hours weekday) }
 {
+    let Date { year, month, day } = date.unwrap_or(Date {
+        year: 0,
+        month: 0,
+        day: 0,
+    });
     *book = [0u32; cells::CELLS];
     book[cells::YEAR] = year as u32;
     book[cells::MONTH] = month as u32;
@@ -47,22 +52,26 @@ pub fn clear(book: &mut Book, year: u16, month: u8, day: u8, hours: u8, weekday:
     book[cells::WEEKDAY] = weekday as u32;
 }
 
-// Cells from `at` on.
-fn write_cells(book: &mut Book, at: usize, row: &[u32])
-    requires { at + length row.now ≤ CELLS }
-    ensures { book.new ≡ sets book.old at row.now }
+// The last row of a table, by its number; the table's count becomes the number and 1.
+#[tactic(auto, using(rules::proofs::Stores::copied), unfolding(crate::specs::Stores::with_row))]
+pub fn set_last_row(book: &mut Book, table: Table, number: u32, row: &[u32])
+    requires width { length row.now ≡ table.width }
+    requires room { number < table.limit }
+    ensures { book.new ≡ with_row table.at number row.now book.old }
 {
-    for k in 0..row.len() {
-        book[at + k] = row[k];
-    }
+    let first = table.row(number);
+    book[first..first + row.len()].copy_from_slice(row);
+    book[table.at] = number + 1;
 }
 
-// A row more in a table, after its first `count` rows, which are as long.
-pub fn add_row(book: &mut Book, table: usize, count: u32, row: &[u32])
-    requires { ((1 ≤ length row.now) × (length row.now ≤ 17)) × ((count < CELLS) × (table + 1 + (count * length row.now + length row.now) ≤ CELLS)) }
-    ensures { book.new ≡ with_row table count row.now book.old }
+// A row more in a table that has room: its number.
+pub fn add_row(book: &mut Book, table: Table, row: &[u32]) -> u32
+    requires width { length row.now ≡ table.width }
+    requires room { counted book.old table.at table.limit < table.limit }
+    ensures number { result ≡ counted book.old table.at table.limit }
+    ensures cells { book.new ≡ with_row table.at result row.now book.old }
 {
-    let at = table + 1 + count as usize * row.len();
-    write_cells(book, at, row);
-    book[table] = count + 1;
+    let number = table.count(book);
+    set_last_row(book, table, number, row);
+    number
 }

@@ -1,20 +1,20 @@
 -- What the program writes does not depend on the parts that its input comes in, and is written before each read.
 -- Assumes nothing.
-use Rattle.std.proofs.Common.{◌≡◌, ℕ, zero, suc, ◌+◌, ◌-◌, ◌≤◌, Bool, true, false, cond, ◌||◌, eqb, ◌⊎◌, List, [], ◌∷◌, ◌++◌, length, take, drop, sym, refl, ap, ◌∙◌, inl, inr, true≢false, append_assoc, append-nil, arith, length-append, length-drop, drop-drop, lt-ltb}
+use Rattle.std.proofs.Common.{◌≡◌, ℕ, zero, suc, ◌≤◌, Bool, true, false, cond, ◌||◌, eqb, ◌⊎◌, List, [], ◌∷◌, ◌++◌, length, drop, sym, refl, ap, ◌∙◌, inl, inr, true≢false, append_assoc, append-nil, arith, length-append, length-drop, lt-ltb}
 use mathlib.Core.Bool.{false≢true}
-use lib.Seq.{drop-append-le, take-nil}
+use lib.Seq.{drop-append-le}
 use Rattle.rules.specs.Book.{Book}
 use Rattle.rules.specs.Records.{RecordReply, reader_refuses}
 use Rattle.rules.proofs.Records.{reading_by, readable}
 use Rattle.cells.specs.View.{book_of}
 use Rattle.lines.specs.Text.{line_of}
 use Rattle.dayrun_progress.specs.declared.Progress.{Progress}
-use Rattle.dayrun_progress.specs.declared.Next.TheVariants.{Take, Write, Read}
+use Rattle.dayrun_progress.specs.declared.Next.TheVariants.{Take, Read}
 use Rattle.dayrun_records.specs.Records.{Outcome, start_book, at_front}
 use Rattle.dayrun_settled.specs.Settled.{Bytes}
-use Rattle.dayrun_progress.specs.States.{unread, collected, answerable, wrote_progress, Fronted, received_progress}
+use Rattle.dayrun_progress.specs.States.{collected, answerable, wrote_progress, received_progress}
 use Rattle.stream.specs.Input.{following, lines_in, lines_of}
-use Rattle.stream.specs.Running.{answered_progress, AnswersNext, State, next_in, Reaches, begins, answers, writes, reads, WritesAll, WritesAtOnce, WaitsWhereOpen}
+use Rattle.stream.specs.Running.{AnswersNext, State, next_in, Reaches, begins, answers, writes, reads, WritesAll, WritesAtOnce, WaitsWhereOpen}
 use Rattle.dayrun_records.proofs.Taking.{front_read, front_refused}
 use Rattle.dayrun_settled.proofs.Patterns.{nothing_open}
 use Rattle.dayrun_settled.proofs.Front.{end_least}
@@ -104,99 +104,71 @@ answer_same false false s rest al fit a = (settled_more s rest fit a, λ b. rw (
 
 -- ---- all steps
 
-drop-take : (n m : ℕ) (s : List ℕ) → drop n (take m s) ≡ take (m - n) (drop n s)
-drop-take zero m s = let e : m - 0 ≡ m = omega arith in rw e
-drop-take (suc n) zero s = let e : 0 - suc n ≡ 0 = omega arith in rw e refl
-drop-take (suc n) (suc m) [] = sym (take-nil (suc m - suc n))
-drop-take (suc n) (suc m) (x ∷ s) = let e : suc m - suc n ≡ m - n = omega arith in rw e (drop-take n m s)
-
--- the unread bytes after a record was taken from them
-unread_after : (buffer : List ℕ) (progress : Progress) (a : Outcome) → unread buffer (answered_progress progress a) ≡ drop a.length (unread buffer progress)
-unread_after buffer progress a =
-    let e : progress.to - progress.from - a.length ≡ progress.to - (progress.from + a.length) = omega arith in
-    sym (drop-take a.length (progress.to - progress.from) (drop progress.from buffer) ∙ rw (drop-drop a.length progress.from buffer, e))
-
--- and after a read
-unread_more : (old : List ℕ) (progress r : Progress) (front more buffer : List ℕ) → Fronted old progress r front → take (r.to + length more) buffer ≡ take r.to front ++ more
-    → unread buffer (received_progress r (length more)) ≡ unread old progress ++ more
-unread_more old progress r front more buffer f e =
-    let z : r.from ≡ 0 = ap (λ (x : Progress). x.from) f.moved in
-    let n : r.to + length more - 0 ≡ r.to + length more = omega arith in
-    rw (z, n) (e ∙ ap (λ (s : List ℕ). s ++ more) f.front)
-
 or_false : (a : Bool) → (a || false) ≡ a
 or_false true = refl
 or_false false = refl
 
 -- what is still to be printed, of the state and what follows its unread bytes
 abbrev left : Bool → State → List ℕ → List ℕ
-left e st rest = cond st.progress.done [] (lines_of e (book_of st.cells) st.progress.position (unread st.buffer st.progress ++ rest))
+left e st rest = cond st.progress.done [] (lines_of e (book_of st.cells) st.progress.position (st.progress.unread ++ rest))
 
 -- the lines of the input and what follows it are those written, those collected and those still to come
 abbrev Kept : List ℕ → List ℕ → State → Type 0
 Kept input written st =
     (e : Bool) (rest : List ℕ) → Allowed st.progress.ended e rest
-    → lines_of e start_book 1 (input ++ rest) ≡ written ++ (collected st.text st.progress ++ left e st rest)
+    → lines_of e start_book 1 (input ++ rest) ≡ written ++ (collected st.progress ++ left e st rest)
 
 module _ (input written : List ℕ) (st : State) (kept : Kept input written st) where
-  abbrev now_unread : List ℕ
-  now_unread = unread st.buffer st.progress
-
   abbrev outcome : Outcome
-  outcome = at_front (book_of st.cells) now_unread
+  outcome = at_front (book_of st.cells) st.progress.unread
 
-  kept_answer : (r : Progress) (text after : List ℕ) → next_in st ≡ Take → AnswersNext st.cells st.buffer st.progress st.text r text after
-      → Kept input written (record { cells = after; buffer = st.buffer; text = text; progress = r })
-  kept_answer r text after t a e rest al =
-      let h = answering now_unread st.progress t in
+  kept_answer : (r : Progress) (after : List ℕ) → next_in st ≡ Take → AnswersNext st.cells st.progress r after → Kept input written (record { cells = after; progress = r })
+  kept_answer r after t a e rest al =
+      let h = answering st.progress t in
       let allowed : Allowed st.progress.ended e rest = rw a.moved at al in
-      let same = answer_same st.progress.ended e now_unread rest allowed a.bytes h.known in
+      let same = answer_same st.progress.ended e st.progress.unread rest allowed a.bytes h.known in
       let b : Book = book_of st.cells in
       let k : ℕ = st.progress.position in
       let line : List ℕ = line_of k outcome.reply in
-      let next : lines_of e b k (now_unread ++ rest)
-      ≡ line ++ cond (eqb outcome.reply.number 1) [] (lines_of e outcome.book (following k) (drop outcome.length now_unread ++ rest))
-      = lines_next e b k (now_unread ++ rest) same.0 ∙ rw (same.1 b, drop-append-le outcome.length now_unread rest (front_size b now_unread).1) in
-      rw (a.line, a.book, a.moved, unread_after st.buffer st.progress outcome, append_assoc (collected st.text st.progress) line _, ← next)
-      (rw h.going at (kept e rest allowed))
+      let next : lines_of e b k (st.progress.unread ++ rest)
+      ≡ line ++ cond (eqb outcome.reply.number 1) [] (lines_of e outcome.book (following k) (drop outcome.length st.progress.unread ++ rest))
+      = lines_next e b k (st.progress.unread ++ rest) same.0 ∙ rw (same.1 b, drop-append-le outcome.length st.progress.unread rest (front_size b st.progress.unread).1) in
+      rw (a.book, a.moved, append_assoc (collected st.progress) line _, ← next) (rw h.going at (kept e rest allowed))
 
-  kept_write : next_in st ≡ Write
-      → Kept input (written ++ collected st.text st.progress) (record { cells = st.cells; buffer = st.buffer; text = st.text; progress = wrote_progress st.progress true })
-  kept_write t e rest al = rw (or_false st.progress.done, append_assoc written (collected st.text st.progress) (left e st rest)) (kept e rest al)
+  kept_write : Kept input (written ++ collected st.progress) (record st { progress = wrote_progress st.progress true })
+  kept_write e rest al = rw (or_false st.progress.done, append_assoc written (collected st.progress) (left e st rest)) (kept e rest al)
 
-  kept_read : (r : Progress) (front more buffer : List ℕ) → next_in st ≡ Read → Fronted st.buffer st.progress r front
-      → take (r.to + length more) buffer ≡ take r.to front ++ more
-      → Kept (input ++ more) written (record { cells = st.cells; buffer = buffer; text = st.text; progress = received_progress r (length more) })
-  kept_read r front more buffer t f m e rest al =
-      let h = reading_on now_unread st.progress t in
+  kept_read : (more : List ℕ) → next_in st ≡ Read → Kept (input ++ more) written (record st { progress = received_progress st.progress more })
+  kept_read more t e rest al =
+      let h = reading_on st.progress t in
       let opened : Allowed st.progress.ended e (more ++ rest) = λ q. absurd (true≢false (sym q ∙ h.open_input)) in
-      rw (append_assoc input more rest, unread_more st.buffer st.progress r front more buffer f m, append_assoc now_unread more rest, f.moved) (kept e (more ++ rest) opened)
+      rw (append_assoc input more rest, append_assoc st.progress.unread more rest) (kept e (more ++ rest) opened)
 
 kept : {input written : List ℕ} {st : State} → Reaches input written st → Kept input written st
-kept (begins cells buffer text b) = λ e rest al. rw b refl
-kept (answers {input} {written} {st} r text after s t a) = kept_answer input written st (kept s) r text after t a
-kept (writes {input} {written} {st} s t) = kept_write input written st (kept s) t
-kept (reads {input} {written} {st} r front more buffer s t f m) = kept_read input written st (kept s) r front more buffer t f m
+kept (begins cells b) = λ e rest al. rw b refl
+kept (answers {input} {written} {st} r after s t a) = kept_answer input written st (kept s) r after t a
+kept (writes {input} {written} {st} s t) = kept_write input written st (kept s)
+kept (reads {input} {written} {st} more s t) = kept_read input written st (kept s) more t
 
 pub writes_at_once : WritesAtOnce
 writes_at_once input written st s t =
-    let h = reading_on (unread st.buffer st.progress) st.progress t in
-    let none = lines_none false (book_of st.cells) st.progress.position (unread st.buffer st.progress) (rw h.open_input at h.unknown) in
-    sym (rw (append-nil input, append-nil (unread st.buffer st.progress), h.empty, h.going, none, append-nil written) at (kept s false [] (λ q. absurd (true≢false (sym q ∙ h.open_input)))))
+    let h = reading_on st.progress t in
+    let none = lines_none false (book_of st.cells) st.progress.position st.progress.unread (rw h.open_input at h.unknown) in
+    sym (rw (append-nil input, append-nil st.progress.unread, h.empty, h.going, none, append-nil written) at (kept s false [] (λ q. absurd (true≢false (sym q ∙ h.open_input)))))
 
 pub waits_where_open : WaitsWhereOpen
 unfolding answerable
 waits_where_open st t =
-    let h = reading_on (unread st.buffer st.progress) st.progress t in
-    unsettled_open (unread st.buffer st.progress) (rw h.open_input at h.unknown)
+    let h = reading_on st.progress t in
+    unsettled_open st.progress.unread (rw h.open_input at h.unknown)
 
 -- nothing is left where the program is done, or no byte is
 none_left : (st : State) (rest : List ℕ) → (st.progress.ended ≡ true → rest ≡ [])
-    → (st.progress.done ≡ true) ⊎ ((st.progress.ended ≡ true) × (answerable st.progress.ended (unread st.buffer st.progress) ≡ false)) → left true st rest ≡ []
+    → (st.progress.done ≡ true) ⊎ ((st.progress.ended ≡ true) × (answerable st.progress.ended st.progress.unread ≡ false)) → left true st rest ≡ []
 none_left st rest last (inl d) = rw d refl
 none_left st rest last (inr (e, a)) =
-    let none = lines_none true (book_of st.cells) st.progress.position (unread st.buffer st.progress) (rw e at a) in
-    rw (last e, append-nil (unread st.buffer st.progress), none) (either st.progress.done)
+    let none = lines_none true (book_of st.cells) st.progress.position st.progress.unread (rw e at a) in
+    rw (last e, append-nil st.progress.unread, none) (either st.progress.done)
   where
     either : (d : Bool) → cond {A = List ℕ} d [] [] ≡ []
     either true = refl
@@ -204,5 +176,5 @@ none_left st rest last (inr (e, a)) =
 
 pub writes_all : WritesAll
 writes_all input written rest st s t last =
-    let h = ending (unread st.buffer st.progress) st.progress t in
-    sym (kept s true rest (λ q. (refl, last q)) ∙ rw (h.0, none_left st rest last h.1) (append-nil written))
+    let h = ending st.progress t in
+    sym (kept s true rest (λ q. (refl, last q)) ∙ rw (h.empty, none_left st rest last h.over) (append-nil written))

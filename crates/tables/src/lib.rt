@@ -5,88 +5,81 @@ ghost use Rattle.std.specs.Prelude.{◌≡◌, ◌+◌, ◌<◌, get_or};
 ghost use Rattle.rules.specs.Book.{place, left_at, shortfall_at, direction_limit, right_limit};
 ghost use Rattle.rules.specs.Refusals.{is_matched};
 ghost use Rattle.cells.specs.Layout.{OFFERED, GRANTED};
-ghost use Rattle.cells.specs.View.{InHour, book_of, direction_at, right_at};
+ghost use Rattle.cells.specs.View.{book_of, direction_at, right_at};
 
-use cells::Book;
-use rules::{Hour, Session};
+use cells::{Book, Place};
+use rules::Session;
 
-// The operators and the model of a direction.
-pub fn out_of(book: &Book, direction: u8) -> u32
-    requires { direction < direction_limit }
-    ensures { result ≡ (direction_at book.now direction).out }
-{
-    book[cells::DIRECTIONS + 1 + direction as usize * 3]
+// A direction: its operators and its model.
+#[derive(Clone, Copy, PartialEq, Eq)]
+pub struct Direction {
+    pub out: u32,
+    pub into: u32,
+    pub model: u32,
 }
 
-pub fn into_of(book: &Book, direction: u8) -> u32
-    requires { direction < direction_limit }
-    ensures { result ≡ (direction_at book.now direction).into }
-{
-    book[cells::DIRECTIONS + 2 + direction as usize * 3]
+// What tells the standing right of a bid in the four-hour model from others.
+#[derive(Clone, Copy, PartialEq, Eq)]
+pub struct RightKey {
+    pub holder: u8,
+    pub direction: u8,
+    pub session: Session,
 }
 
-pub fn model_of(book: &Book, direction: u8) -> u32
+pub fn direction_at(book: &Book, direction: u8) -> Direction
     requires { direction < direction_limit }
-    ensures { result ≡ (direction_at book.now direction).model }
+    ensures out { result.out ≡ (direction_at book.now direction).out }
+    ensures into { result.into ≡ (direction_at book.now direction).into }
+    ensures model { result.model ≡ (direction_at book.now direction).model }
 {
-    book[cells::DIRECTIONS + 3 + direction as usize * 3]
+    let row = cells::DIRECTIONS.row(direction as u32);
+    Direction {
+        out: book[row],
+        into: book[row + 1],
+        model: book[row + 2],
+    }
 }
 
 // The holder, the direction and the session of a right.
-pub fn right_holder(book: &Book, right: u16) -> u8
+pub fn right_key(book: &Book, right: u16) -> RightKey
     requires { right < right_limit }
-    ensures { result ≡ (right_at book.now right).holder }
+    ensures holder { result.holder ≡ (right_at book.now right).holder }
+    ensures direction { result.direction ≡ (right_at book.now right).direction }
+    ensures session { result.session.0 ≡ (right_at book.now right).session }
 {
-    (book[cells::RIGHTS + 1 + right as usize * 8] % 256) as u8
+    let row = cells::RIGHTS.row(right as u32);
+    RightKey {
+        holder: (book[row] % 256) as u8,
+        direction: (book[row + 1] % 256) as u8,
+        session: Session((book[row + 2] % 256) as u8),
+    }
 }
 
-pub fn right_direction(book: &Book, right: u16) -> u8
-    requires { right < right_limit }
-    ensures { result ≡ (right_at book.now right).direction }
+// The MW of a place, offered and granted.
+fn offered_at(book: &Book, at: Place) -> u32
+    ensures { result ≡ get_or book.now (OFFERED + place at.row at.hour.0) 0 }
 {
-    (book[cells::RIGHTS + 2 + right as usize * 8] % 256) as u8
+    book[cells::OFFERED_MW + at.position()]
 }
 
-pub fn right_session(book: &Book, right: u16) -> Session
-    requires { right < right_limit }
-    ensures { result.0 ≡ (right_at book.now right).session }
+pub fn granted_at(book: &Book, at: Place) -> u32
+    ensures { result ≡ get_or book.now (GRANTED + place at.row at.hour.0) 0 }
 {
-    Session((book[cells::RIGHTS + 3 + right as usize * 8] % 256) as u8)
+    book[cells::GRANTED_MW + at.position()]
 }
 
-// The MW of a row in an hour, offered and granted.
-fn offered_at(book: &Book, row: u8, hour: Hour) -> u32
-    requires { InHour row hour.0 }
-    ensures { result ≡ get_or book.now (OFFERED + place row hour.0) 0 }
+// What is left there.
+pub fn left_at(book: &Book, at: Place) -> u32
+    ensures { result ≡ left_at (book_of book.now) at.row at.hour.0 }
 {
-    book[cells::OFFERED_MW + cells::place_of(row, hour)]
+    offered_at(book, at).saturating_sub(granted_at(book, at))
 }
 
-pub fn granted_at(book: &Book, row: u8, hour: Hour) -> u32
-    requires { InHour row hour.0 }
-    ensures { result ≡ get_or book.now (GRANTED + place row hour.0) 0 }
+// By how much the granted MW exceed the offer there.
+pub fn shortfall_at(book: &Book, at: Place) -> u32
+    ensures { result ≡ shortfall_at (book_of book.now) at.row at.hour.0 }
 {
-    book[cells::GRANTED_MW + cells::place_of(row, hour)]
-}
-
-// What a row has left in an hour.
-pub fn left_at(book: &Book, row: u8, hour: Hour) -> u32
-    requires { InHour row hour.0 }
-    ensures { result ≡ left_at (book_of book.now) row hour.0 }
-{
-    let offered = offered_at(book, row, hour);
-    let granted = granted_at(book, row, hour);
-    rules::less(offered, granted)
-}
-
-// By how much the granted MW of a row exceed its offer in an hour.
-pub fn shortfall_at(book: &Book, row: u8, hour: Hour) -> u32
-    requires { InHour row hour.0 }
-    ensures { result ≡ shortfall_at (book_of book.now) row hour.0 }
-{
-    let offered = offered_at(book, row, hour);
-    let granted = granted_at(book, row, hour);
-    rules::less(granted, offered)
+    granted_at(book, at).saturating_sub(offered_at(book, at))
 }
 
 // The session of a direction was matched.

@@ -74,7 +74,3 @@ gather_next b r k last i l n p m h u e f =
     let s : last - i ≡ suc (last - (i + 1)) = omega arith in
     let v : lower_of k p ≡ lower_in b i k = rw e (five_at (lower_in b i) k m) in
     rw (add-one n, take-suc-set l n p u, sum-snoc (lower_of k) (take n l) p, s, of_right b r i f) (omega arith)
-
--- the five sums over the gathered pairs
-pub gathered_sums : (b : List ℕ) (r : ℕ) (l : PairList) → Gathered b r l → totals (take l.count l.pairs) ≡ five (total_in b r)
-gathered_sums b r l g = rw (g.sums 0 (omega arith), g.sums 1 (omega arith), g.sums 2 (omega arith), g.sums 3 (omega arith), g.sums 4 (omega arith))

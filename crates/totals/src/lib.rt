@@ -1,7 +1,7 @@
 // The pairs of one right, gathered and lent as a slice of structs, and the sums over it of the lower sides, one for each hour of the session.
 #![tactic(auto)]
 
-ghost use Rattle.std.specs.Prelude.{◌≡◌, ◌+◌, ◌<◌, ◌≤◌, ◌^◌, min, length, take};
+ghost use Rattle.std.specs.Prelude.{◌≡◌, ◌+◌, ◌<◌, ◌≤◌, ◌^◌, length, take};
 ghost use Rattle.rules.specs.Basics.{five};
 ghost use Rattle.rules.specs.Book.{pair_limit};
 ghost use Rattle.totals.specs.Total.{Most, sum_in, totals};
@@ -18,7 +18,7 @@ struct PairLower {
     lower: [u32; 5],
 }
 
-// The pairs of one right: the first `count` of the array.
+// The pairs of one right: the first `count` of the array. The scope asks for a lent slice of pair structs and for no heap.
 #[derive(Clone, Copy)]
 struct PairList {
     pairs: [PairLower; MOST],
@@ -56,11 +56,9 @@ fn total_lower(list: &[PairLower]) -> [u64; 5]
     ensures { result ≡ totals list.now }
 {
     let mut sums = [0u64; 5];
-    let mut i: usize = 0;
-    while i < list.len() {
-        let next = with_lower(sums, list[i]);
+    for pair in list {
+        let next = with_lower(sums, *pair);
         sums = next;
-        i = i + 1;
     }
     sums
 }
@@ -75,20 +73,13 @@ fn total_of(list: [PairLower; MOST], count: usize) -> [u64; 5]
 
 // ---- the pairs of one right
 
-// The lower of two numbers.
-fn lesser(a: u32, b: u32) -> u32
-    ensures { result ≡ min a b }
-{
-    if a < b { a } else { b }
-}
-
 // The lower side of pair number i in the hour at a position of the session.
 pub fn lower_at(book: &Book, i: u32, position: usize) -> u32
     requires { (i < pair_limit) × (position < 5) }
     ensures { result ≡ lower_in book.now i position }
 {
-    let at = cells::PAIRS + 4 + i as usize * 13 + position;
-    lesser(book[at], book[at + 5])
+    let at = cells::PAIRS.row(i) + 3 + position;
+    book[at].min(book[at + 5])
 }
 
 // Row i of the table of pairs.
@@ -103,29 +94,26 @@ fn pair_in(book: &Book, i: u32) -> PairLower
         lower_at(book, i, 3),
         lower_at(book, i, 4),
     ];
-    PairLower { lower: lower }
+    PairLower { lower }
 }
 
-// The pairs of one right, in the order of the table.
+// The pairs of one right, in the order of the table. By number: the table is cells and no slice of structs.
 fn pairs_of(book: &Book, right: u32) -> PairList
     ensures { Gathered book.now right result }
 {
     let none = PairLower { lower: [0; 5] };
     let mut pairs = [none; MOST];
     let mut count: usize = 0;
-    let entries = cells::count_in(book, cells::PAIRS, cells::PAIR_LIMIT);
+    let entries = cells::PAIRS.count(book);
     for i in 0..entries {
-        if book[cells::PAIRS + 1 + i as usize * 13] != right {
+        if book[cells::PAIRS.row(i)] != right {
             continue;
         }
         let pair = pair_in(book, i);
         pairs[count] = pair;
-        count = count + 1;
+        count += 1;
     }
-    PairList {
-        pairs: pairs,
-        count: count,
-    }
+    PairList { pairs, count }
 }
 
 // The sums of the lower sides over the pairs of one right.

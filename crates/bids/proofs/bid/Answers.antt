@@ -1,16 +1,12 @@
 -- `bids::bid` meets its contract.
 -- Assumes nothing.
-use mathlib.Core.Path.{subst}
+use Rattle.std.proofs.lemmas.Result.{err_from_is_err_and}
 use Rattle.answers.proofs.Laws.{refused}
-use Rattle.bids.specs.Work.{JudgedBid}
 use Rattle.bids.proofs.Placing.{bid_answers}
 use Rattle.bids.proofs.bid.Goals as goal
 
-pub place_bid-requires : goal.place_bid-requires
-place_bid-requires c = subst (JudgedBid _ _ _ _ _ _) c.in-Clear.is c.bid_verdict-verdict.ensures
+pub returns-in_err-entry : goal.returns-in_err-entry
+returns-in_err-entry c = let p = err_from_is_err_and c.from_residual.result c.from_residual.ensures.1 in rw (p.1, p.2) (refused _ _ _ c.in_err-entry.ensures)
 
-pub returns-in-No : goal.returns-in-No
-returns-in-No c = refused _ _ _ (subst (JudgedBid _ _ _ _ _ _) c.in-No.is c.bid_verdict-verdict.ensures)
-
-pub returns-in-Clear : goal.returns-in-Clear
-returns-in-Clear c = bid_answers _ _ _ _ _ _ _ _ (subst (JudgedBid _ _ _ _ _ _) c.in-Clear.is c.bid_verdict-verdict.ensures).clear c.place_bid.ensures
+pub returns : goal.returns
+returns c = bid_answers _ _ _ _ _ _ _ _ c.in_ok-entry.ensures.clear c.place_bid.ensures

@@ -1,15 +1,15 @@
 -- `bids::bid_shortage` meets its contract.
 -- Assumes nothing.
-use Rattle.cells.specs.View.{book_of}
-use Rattle.cells.proofs.Views.{hours_within}
-use Rattle.bids.proofs.Tests.{session_hours, searched}
 use borrow.Author.Rules.{rules}
+use mathlib.Core.Path.{refl}
+use Rattle.cells.specs.View.{book_of}
+use Rattle.bids.proofs.Tests.{searched}
 use Rattle.bids.proofs.bid_shortage.Goals as goal
 
-pub shortage-requires : goal.shortage-requires
+pub session_hours-requires : goal.session_hours-requires
 unfolding book_of
-shortage-requires c = let h = c.hours-hours.ensures in
-    session_hours _ _ _ _ _ _ (rw h (hours_within _)) c.requires.row (rw h c.requires.is_there) c.first_hour-first.ensures c.hours_in-count.ensures
+session_hours-requires c = (c.requires.row, c.requires.is_there)
 
 pub returns : goal.returns
-returns c = searched _ _ _ _ _ _ _ _ _ c.hours-hours.ensures (search rules) c.requires c.first_hour-first.ensures c.hours_in-count.ensures c.shortage.ensures
+returns c = let hours = c.session_hours.ensures in
+    searched _ _ _ _ _ _ _ _ _ refl (search rules) c.requires hours.first hours.count (rw hours.direction at c.shortage.ensures)

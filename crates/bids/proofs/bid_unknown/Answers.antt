@@ -11,11 +11,11 @@ returns-then-party_unknown c = rw (← c.party_unknown.ensures, c.if-party_unkno
 pub returns-then-direction_unknown : goal.returns-then-direction_unknown
 returns-then-direction_unknown c = rw (← c.party_unknown.ensures, c.if-party_unknown.false, ← c.direction_unknown.ensures, c.if-direction_unknown.true)
 
-pub model_of-model-requires : goal.model_of-model-requires
-model_of-model-requires c = let l = known_direction _ _ (told c.direction_unknown.ensures c.if-direction_unknown.false) in
+pub direction_at-model-requires : goal.direction_at-model-requires
+direction_at-model-requires c = let l = known_direction _ _ (told c.direction_unknown.ensures c.if-direction_unknown.false) in
     omega arith
 
 pub returns : goal.returns
 returns c = let l = known_direction _ _ (told c.direction_unknown.ensures c.if-direction_unknown.false) in
-    rw (← c.party_unknown.ensures, c.if-party_unknown.false, ← c.direction_unknown.ensures, c.if-direction_unknown.false, c.session_there.ensures)
-    (session_unknown_lem _ _ _ _ _ c.hours-hours.ensures c.model_of-model.ensures l)
+    rw (← c.party_unknown.ensures, c.if-party_unknown.false, ← c.direction_unknown.ensures, c.if-direction_unknown.false, c.is_there.ensures, c.session.ensures)
+    (session_unknown_lem _ _ _ _ _ c.day.ensures.hours c.direction_at-model.ensures.model l)

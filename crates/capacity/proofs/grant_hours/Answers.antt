@@ -11,7 +11,7 @@ loop-k-init c = (search rules, repeated_start _ _ _)
 
 pub loop-k-preserved : goal.loop-k-preserved
 unfolding granted_next
-loop-k-preserved c = (search rules, rw c.grant_hour.ensures (c.loop-k.invariant.1 ∙ repeated_next _ _ _ _ c.loop-k-test.true))
+loop-k-preserved c = (search rules, rw c.grant.ensures (c.loop-k.invariant.1 ∙ repeated_next _ _ _ _ c.loop-k-test.true))
 
 pub returns : goal.returns
-returns c = rw (← c.profile_count-profiles.ensures.0) (sym (c.loop-k.invariant.1 ∙ repeated_done _ _ _ _ c.loop-k-test.false))
+returns c = rw (← c.profile_count-profiles.ensures.count) (sym (c.loop-k.invariant.1 ∙ repeated_done _ _ _ _ c.loop-k-test.false))

@@ -12,7 +12,7 @@ hours-init c = (search rules, refl, each_start _ _ _)
 pub profiles-init : goal.profiles-init
 unfolding try_hour
 profiles-init c = let at = c.hours in
-    (search rules, at.invariant.1, at.invariant.2 ∙ each_next _ _ _ _ c.hours-test.true ∙ told_false _ _ c.is_short.ensures c.if-is_short.false ∙ rw (← c.profile_count-profiles.ensures.0) (each_start _ _ _))
+    (search rules, at.invariant.1, at.invariant.2 ∙ each_next _ _ _ _ c.hours-test.true ∙ told_false _ _ c.is_short.ensures c.if-is_short.false ∙ rw (← c.profile_count-profiles.ensures.count) (each_start _ _ _))
 
 pub profiles-preserved : goal.profiles-preserved
 unfolding try_profile

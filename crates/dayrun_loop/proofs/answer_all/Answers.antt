@@ -1,19 +1,49 @@
 -- `dayrun_loop::answer_all` meets its contract.
 -- Assumes nothing.
-use Rattle.std.proofs.Common.{◌≡◌, suc, ◌-◌, ◌^◌, sym, arith}
-use Rattle.dayrun_loop.specs.Steps.{more}
-use Rattle.dayrun_loop.proofs.Steps.{goes_first, turns_first, goes_on}
+use Rattle.std.proofs.Common.{sym, ◌∙◌, true≢false, arith}
+use Rattle.dayrun_progress.proofs.Nexts.{answering, few_unread}
+use Rattle.dayrun_loop.specs.Steps.{taking, writing, reading, none}
+use Rattle.dayrun_loop.proofs.Steps.{arrives, one_more}
 use Rattle.dayrun_loop.proofs.answer_all.Goals as goal
+use Rattle.dayrun_loop.proofs.answer_all.Goals.{in-Take, in-Write, in-Read}
 
-pub loop-turns-init : goal.loop-turns-init
-loop-turns-init g c =
-    (goes_first _ _ _ _ c.requires c.start-progress.ensures (omega arith) (omega arith), (omega arith, turns_first _ _ _ _ c.requires c.start-progress.ensures))
+pub loop-turn-init : goal.loop-turn-init
+loop-turn-init g c = rw c.start-progress.ensures (none _ c.requires)
 
-pub loop-turns-preserved : goal.loop-turns-preserved
-loop-turns-preserved g c =
-    let most = c.loop-turns.invariant.1.0 in
-    let left = c.loop-turns-test.true in
-    let same : suc (2 ^ 64 - 1 - c.loop-turns.turns) ≡ 2 ^ 64 - 1 - (c.loop-turns.turns - 1) = omega arith in (
-      goes_on _ _ _ c.loop-turns.invariant.0 (sym c.what_next-next.ensures) c.go_on-progress.ensures,
-      (omega arith, rw (← same) (more _ _ _ _ c.loop-turns.invariant.1.1 (sym c.what_next-next.ensures) c.in_default.not-End c.go_on-progress.ensures)),
-    )
+pub answer_next-requires : goal.answer_next-requires
+answer_next-requires g c = (answering _ (sym c.what_next-next.ensures ∙ c.in-Take.is)).fits
+
+pub read_more-requires : goal.read_more-requires
+read_more-requires g c = few_unread _ (sym c.what_next-next.ensures ∙ c.in-Read.is)
+
+pub loop-turn-preserved : goal.loop-turn-preserved
+loop-turn-preserved g c =
+    let turns = c.loop-turn.invariant in
+    let next = sym c.what_next-next.ensures in
+    elim c.match-next.branch [
+      | in-Take w ↦ rw (w.book-is, w.progress-is) (one_more _ _ _ _ turns (next ∙ w.in-Take.is) (taking _ _ _ w.answer_next.ensures))
+      | in-Write w ↦ rw (w.book-is, w.progress-is) (one_more _ _ _ _ turns (next ∙ w.in-Write.is) (writing _ _ w.write_lines.ensures))
+      | in-Read w ↦ rw (w.book-is, w.progress-is) (one_more _ _ _ _ turns (next ∙ w.in-Read.is) (reading _ _ w.read_more.ensures))
+    ]
+
+pub returns-in-End : goal.returns-in-End
+returns-in-End g c =
+    record {
+      progress = c.loop-turn.progress;
+      turns = c.loop-turn._turn;
+      taken = c.loop-turn.invariant;
+      arrives = arrives _ _ c.loop-turn.invariant;
+      ends = λ _. sym c.what_next-next.ensures ∙ c.in-End.is;
+      all = λ h. absurd (true≢false h);
+    }
+
+pub returns : goal.returns
+returns g c =
+    record {
+      progress = c.loop-turn.progress;
+      turns = c.loop-turn._turn;
+      taken = c.loop-turn.invariant;
+      arrives = arrives _ _ c.loop-turn.invariant;
+      ends = λ h. absurd (true≢false (sym h));
+      all = λ _. omega (arith, c.loop-turn.auto._turn-end);
+    }

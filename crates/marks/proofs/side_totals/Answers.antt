@@ -6,7 +6,7 @@ use Rattle.marks.proofs.Sums.{zeros, sum_start, sum_next, sum_done}
 use Rattle.marks.proofs.side_totals.Goals as goal
 
 pub loop-i-init : goal.loop-i-init
-loop-i-init c = (omega (arith, c.count_in-count.ensures), (λ hour l. omega (arith, zeros hour l), λ hour l. sum_start _ _ _ hour _ c.count_in-count.ensures _ (zeros hour l)))
+loop-i-init c = (omega (arith, c.count-count.ensures), (λ hour l. omega (arith, zeros hour l), λ hour l. sum_start _ _ _ hour _ c.count-count.ensures _ (zeros hour l)))
 
 pub loop-i-preserved : goal.loop-i-preserved
 loop-i-preserved c = let a = c.with_share-next.ensures in

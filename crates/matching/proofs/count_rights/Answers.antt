@@ -10,7 +10,7 @@ use Rattle.matching.proofs.Counts.{one_at_most, count_is}
 use Rattle.matching.proofs.count_rights.Goals as goal
 
 pub loop-i-init : goal.loop-i-init
-loop-i-init c = (omega (arith, c.count_in-rights.ensures), rw (c.count_in-rights.ensures, zero-add _) (count_is _ _ _ ∙ each_start _ _ _))
+loop-i-init c = (omega (arith, c.count-rights.ensures), rw (c.count-rights.ensures, zero-add _) (count_is _ _ _ ∙ each_start _ _ _))
 
 pub loop-i-preserved : goal.loop-i-preserved
 unfolding tally

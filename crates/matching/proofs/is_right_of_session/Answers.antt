@@ -4,10 +4,12 @@ use borrow.Author.Tests.{eq-eqb, ne_eqb}
 use Rattle.matching.specs.Work.{is_of}
 use Rattle.matching.proofs.is_right_of_session.Goals as goal
 
-pub returns-then-right_direction-direction : goal.returns-then-right_direction-direction
+pub returns-then-key-direction : goal.returns-then-key-direction
 unfolding is_of
-returns-then-right_direction-direction c = rw (← c.right_direction.ensures, ne_eqb _ _ c.if-right_direction-direction.true)
+returns-then-key-direction c = let key = c.right_key-key.ensures in
+    rw (← key.direction, eq-eqb _ c.args.direction c.if-key-direction.true, ← key.session) c.eq.ensures
 
-pub returns : goal.returns
+pub returns-else-key-direction : goal.returns-else-key-direction
 unfolding is_of
-returns c = rw (← c.right_direction.ensures, eq-eqb _ _ c.if-right_direction-direction.false, ← c.right_session-stands.ensures)
+returns-else-key-direction c = let key = c.right_key-key.ensures in
+    rw (← key.direction, ne_eqb _ c.args.direction c.if-key-direction.false)

@@ -1,23 +1,12 @@
 -- `matching::match_session` meets its contract.
 -- Assumes nothing.
-use mathlib.Core.Path.{◌≡◌, subst}
-use Rattle.rules.specs.Calls.{Match}
-use Rattle.rules.specs.Refusals.{number}
-use Rattle.cells.specs.View.{book_of}
-use Rattle.answers.specs.Promises.{Judged}
+use Rattle.std.proofs.lemmas.Result.{err_from_is_err_and}
 use Rattle.answers.proofs.Laws.{refused}
 use Rattle.matching.proofs.Placing.{match_answers}
 use Rattle.matching.proofs.match_session.Goals as goal
 
-pub returns-in-No : goal.returns-in-No
-returns-in-No c = refused _ _ _ (subst (Judged _ _) c.in-No.is c.match_verdict-verdict.ensures)
+pub returns-in_err-match_verdict : goal.returns-in_err-match_verdict
+returns-in_err-match_verdict c = let p = err_from_is_err_and c.from_residual.result c.from_residual.ensures.1 in rw (p.1, p.2) (refused _ _ _ c.in_err-match_verdict.ensures)
 
-pub returns-in-Clear : goal.returns-in-Clear
-returns-in-Clear c =
-    let clear : let a = c.args in number (book_of a.book.now) (Match a.time a.direction a.session.0) ≡ 0 = (subst (Judged _ _) c.in-Clear.is c.match_verdict-verdict.ensures) in
-    match_answers _ _ _ _ _ _ clear c.place_match.ensures
-
-pub place_match-requires : goal.place_match-requires
-place_match-requires c =
-    let clear : let a = c.args in number (book_of a.book.now) (Match a.time a.direction a.session.0) ≡ 0 = (subst (Judged _ _) c.in-Clear.is c.match_verdict-verdict.ensures) in
-    clear
+pub returns : goal.returns
+returns c = match_answers _ _ _ _ _ _ c.in_ok-match_verdict.ensures c.place_match.ensures

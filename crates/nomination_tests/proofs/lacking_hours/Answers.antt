@@ -5,7 +5,7 @@ use Rattle.nomination_tests.proofs.Tests.{lacking_is}
 use Rattle.nomination_tests.proofs.lacking_hours.Goals as goal
 
 pub any_above-requires : goal.any_above-requires
-any_above-requires c = rw (c.hours_in-count.ensures, c.hours-hours.ensures) (hours_few _ _ _ (hours_within _).1)
+any_above-requires c = rw (c.hours-count.ensures, c.session.ensures, c.day.ensures.hours) (hours_few _ _ _ (hours_within _).1)
 
 pub returns : goal.returns
-returns c = lacking_is _ _ c.requires _ _ _ _ _ _ c.hours-hours.ensures c.right_model-model.ensures c.right_session-session.ensures c.hours_in-count.ensures c.any_above.ensures
+returns c = lacking_is _ _ c.requires _ _ _ _ _ _ c.day.ensures.hours c.right_model-model.ensures c.right_key.ensures.session (rw c.session.ensures at c.hours-count.ensures) c.any_above.ensures

@@ -10,9 +10,9 @@ use Rattle.nomination_tests.proofs.model_there.Goals as goal
 pub returns-then-direction_unknown : goal.returns-then-direction_unknown
 returns-then-direction_unknown c = no_model _ _ (told c.direction_unknown.ensures c.if-direction_unknown.true)
 
-pub model_of-requires : goal.model_of-requires
-model_of-requires c = let l = known_direction _ _ (told c.direction_unknown.ensures c.if-direction_unknown.false) in
+pub direction_at-requires : goal.direction_at-requires
+direction_at-requires c = let l = known_direction _ _ (told c.direction_unknown.ensures c.if-direction_unknown.false) in
     omega arith
 
 pub returns : goal.returns
-returns c = c.model_of.ensures ∙ sym (model_at _ _ (known_direction _ _ (told c.direction_unknown.ensures c.if-direction_unknown.false)))
+returns c = c.direction_at.ensures.model ∙ sym (model_at _ _ (known_direction _ _ (told c.direction_unknown.ensures c.if-direction_unknown.false)))

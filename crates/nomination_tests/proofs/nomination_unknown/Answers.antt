@@ -11,4 +11,4 @@ returns-then-party_unknown-2 c = rw (← c.party_unknown.ensures, c.if-party_unk
 
 pub returns : goal.returns
 returns c = rw (← c.party_unknown.ensures, c.if-party_unknown.false, ← c.party_unknown-2.ensures, c.if-party_unknown-2.false)
-    (right_unknown_lem _ _ _ c.count_in.ensures)
+    (right_unknown_lem _ _ _ c.count.ensures)

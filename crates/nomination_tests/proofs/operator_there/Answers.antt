@@ -10,16 +10,12 @@ use Rattle.nomination_tests.proofs.operator_there.Goals as goal
 pub returns-then-direction_unknown : goal.returns-then-direction_unknown
 returns-then-direction_unknown c = no_operator _ _ c.args.side (told c.direction_unknown.ensures c.if-direction_unknown.true)
 
-pub into_of-requires : goal.into_of-requires
-into_of-requires c = let l = known_direction _ _ (told c.direction_unknown.ensures c.if-direction_unknown.false) in
+pub direction_at-there-requires : goal.direction_at-there-requires
+direction_at-there-requires c = let l = known_direction _ _ (told c.direction_unknown.ensures c.if-direction_unknown.false) in
     omega arith
 
 pub returns-then-side-ne0 : goal.returns-then-side-ne0
-returns-then-side-ne0 c = c.into_of.ensures ∙ in_operator _ _ _ (known_direction _ _ (told c.direction_unknown.ensures c.if-direction_unknown.false)) c.if-side-ne0.true
-
-pub out_of-requires : goal.out_of-requires
-out_of-requires c = let l = known_direction _ _ (told c.direction_unknown.ensures c.if-direction_unknown.false) in
-    omega arith
+returns-then-side-ne0 c = c.direction_at-there.ensures.into ∙ in_operator _ _ _ (known_direction _ _ (told c.direction_unknown.ensures c.if-direction_unknown.false)) c.if-side-ne0.true
 
 pub returns : goal.returns
-returns c = c.out_of.ensures ∙ out_operator _ _ _ (known_direction _ _ (told c.direction_unknown.ensures c.if-direction_unknown.false)) c.if-side-ne0.false
+returns c = c.direction_at-there.ensures.out ∙ out_operator _ _ _ (known_direction _ _ (told c.direction_unknown.ensures c.if-direction_unknown.false)) c.if-side-ne0.false

@@ -8,4 +8,4 @@ use Rattle.nomination_tests.proofs.Tests.{direction_is}
 use Rattle.nomination_tests.proofs.right_model.Goals as goal
 
 pub returns : goal.returns
-returns c = c.model_there.ensures ∙ ap (λ (d : ℕ). model_of (book_of c.args.book.now) d) (direction_is _ _ c.requires _ c.right_direction-direction.ensures)
+returns c = c.model_there.ensures ∙ ap (λ (d : ℕ). model_of (book_of c.args.book.now) d) (direction_is _ _ c.requires _ c.right_key.ensures.direction)

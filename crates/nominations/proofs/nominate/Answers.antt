@@ -1,16 +1,12 @@
 -- `nominations::nominate` meets its contract.
 -- Assumes nothing.
-use mathlib.Core.Path.{subst}
+use Rattle.std.proofs.lemmas.Result.{err_from_is_err_and}
 use Rattle.answers.proofs.Laws.{refused}
-use Rattle.nominations.specs.Work.{JudgedNomination}
 use Rattle.nominations.proofs.Placing.{nomination_answers}
 use Rattle.nominations.proofs.nominate.Goals as goal
 
-pub place_nomination-requires : goal.place_nomination-requires
-place_nomination-requires c = subst (JudgedNomination _ _ _ _ _ _ _) c.in-Clear.is c.nomination_verdict-verdict.ensures
+pub returns-in_err-found : goal.returns-in_err-found
+returns-in_err-found c = let p = err_from_is_err_and c.from_residual.result c.from_residual.ensures.1 in rw (p.1, p.2) (refused _ _ _ c.in_err-found.ensures)
 
-pub returns-in-No : goal.returns-in-No
-returns-in-No c = refused _ _ _ (subst (JudgedNomination _ _ _ _ _ _ _) c.in-No.is c.nomination_verdict-verdict.ensures)
-
-pub returns-in-Clear : goal.returns-in-Clear
-returns-in-Clear c = nomination_answers _ _ _ _ _ _ _ _ _ (subst (JudgedNomination _ _ _ _ _ _ _) c.in-Clear.is c.nomination_verdict-verdict.ensures).clear c.place_nomination.ensures
+pub returns : goal.returns
+returns c = nomination_answers _ _ _ _ _ _ _ _ _ c.in_ok-found.ensures.clear c.place_nomination.ensures

@@ -3,4 +3,4 @@
 use Rattle.nominations.proofs.nominated_pair.Goals as goal
 
 pub returns : goal.returns
-returns c = rw (← c.out_party-out.ensures, ← c.in_party-into.ensures) c.standing_pair.ensures
+returns c = let key = c.key_of.ensures in rw (← key.right, ← key.out, ← key.into) c.standing_pair.ensures

@@ -6,6 +6,6 @@ use Rattle.offers.proofs.place_offer.Goals as goal
 pub returns : goal.returns
 returns c = record {
   cells = c.cells_in.ensures;
-  left_is = c.less.ensures ∙ rw c.granted_at-granted.ensures;
+  left_is = c.saturating_sub.ensures ∙ rw c.granted_at-granted.ensures;
   cells_are = c.set_clock.ensures ∙ rw c.set_offered.ensures;
 }

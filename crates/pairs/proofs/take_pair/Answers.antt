@@ -13,4 +13,4 @@ returns-in_default c = let k = c.requires in
     opened_there _ _ _ _ (sym k.found_is ∙ e) _ _ (room_left k e) c.open_pair.ensures
 
 pub returns : goal.returns
-returns c = found_there _ _ _ _ _ c.cells_in.ensures.count (sym c.requires.found_is ∙ c.in-At.is)
+returns c = found_there _ _ _ _ _ c.cells_in.ensures.count (sym c.requires.found_is ∙ c.in-Some.is)

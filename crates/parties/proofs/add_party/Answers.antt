@@ -1,18 +1,16 @@
 -- `parties::add_party` meets its contract.
 -- Assumes nothing.
-use mathlib.Core.Path.{◌≡◌}
-use native.Mathlib.Omega.{arith}
-use lib.ListN.{length}
-use Rattle.setup.proofs.Adding.{answers_no, adds_party, room, answers_number}
-use borrow.Author.Rules.{rules}
+use Rattle.std.proofs.Common.{rules}
+use Rattle.std.proofs.lemmas.Result.{err_from_is_err_and}
+use Rattle.answers.proofs.Laws.{refused}
+use Rattle.setup.proofs.Adding.{adds_party, room, answers_number}
 use Rattle.parties.proofs.add_party.Goals as goal
 
-pub place_row-requires : goal.place_row-requires
-place_row-requires c = let long : length c.party_row-row.result ≡ 17 = search rules in
-    omega (arith, room (adds_party _ _ _ _ (search rules) c.party_row-row.ensures) c.in-Clear.is c.party_verdict-verdict.ensures)
+pub returns-in_err-party_verdict : goal.returns-in_err-party_verdict
+returns-in_err-party_verdict c = let p = err_from_is_err_and c.from_residual.result c.from_residual.ensures.1 in rw (p.1, p.2) (refused _ _ _ c.in_err-party_verdict.ensures)
 
-pub returns-in-No : goal.returns-in-No
-returns-in-No c = answers_no _ _ _ c.in-No.is c.party_verdict-verdict.ensures
+pub add_row-requires-clause-room : goal.add_row-requires-clause-room
+add_row-requires-clause-room c = room (adds_party _ _ _ _ (search rules) c.party_row-row.ensures) c.in_ok-party_verdict.ensures
 
-pub returns-in-Clear : goal.returns-in-Clear
-returns-in-Clear c = answers_number (adds_party _ _ _ _ (search rules) c.party_row-row.ensures) c.in-Clear.is c.party_verdict-verdict.ensures c.place_row.ensures
+pub returns : goal.returns
+returns c = answers_number (adds_party _ _ _ _ (search rules) c.party_row-row.ensures) c.in_ok-party_verdict.ensures c.cells_in.ensures c.add_row.ensures.number c.add_row.ensures.cells

@@ -1,21 +1,21 @@
--- `parties::code_taken` meets its contract. The loop's invariant: the search from here on gives the answer.
+-- `parties::code_taken` meets its contract.
 -- Assumes nothing.
-use mathlib.Core.Path.{◌∙◌}
-use native.Mathlib.Omega.{arith}
-use borrow.Author.Rules.{rules}
-use Rattle.cells.proofs.Turns.{each_start}
-use Rattle.setup.proofs.Searches.{found, not_found, none_found}
-use Rattle.parties.proofs.Searches.{party_search}
+use Rattle.std.proofs.Common.{refl, ◌∙◌, arith, rules, tests}
+use Rattle.std.proofs.lemmas.Iterator.{YieldsList-from_range}
+use Rattle.std.proofs.lemmas.Iterator.Search.{any_from_yields_List}
+use Rattle.rules.specs.Setup.{code_taken}
+use Rattle.cells.specs.View.{book_of, parties_in, party_at}
+use Rattle.cells.proofs.Finds.{any_found}
+use Rattle.parties.specs.Work.{same_code}
+use Rattle.setup.proofs.Searches.{taken_any}
 use Rattle.parties.proofs.code_taken.Goals as goal
 
-pub loop-k-init : goal.loop-k-init
-loop-k-init c = (omega (arith, c.count_in-count.ensures), rw c.count_in-count.ensures (party_search _ _ ∙ each_start _ _ _))
-
-pub returns-then-same_code : goal.returns-then-same_code
-returns-then-same_code c = found _ _ c.loop-k.invariant.1 c.loop-k-test.true c.same_code.ensures c.if-same_code.true
-
-pub loop-k-preserved : goal.loop-k-preserved
-loop-k-preserved c = (search rules, not_found _ _ c.loop-k.invariant.1 c.loop-k-test.true c.same_code.ensures c.if-same_code.false)
-
 pub returns : goal.returns
-returns c = none_found _ _ c.loop-k.invariant.1 c.loop-k-test.false
+unfolding book_of parties_in code_taken
+returns c =
+    let test = same_code c.args.code in
+    let row = party_at c.args.book.now in
+    let n = c.count-count.result in
+    rw (← c.count-count.ensures) (any_found test row n
+    (any_from_yields_List (λ i. test (row i)) _ _ _ c.any.ensures.ran (YieldsList-from_range 0 n n refl (omega arith)) (λ x b q k. search (rules, tests)))
+    ∙ taken_any test (code_taken c.args.code) refl (λ x xs. refl) _)

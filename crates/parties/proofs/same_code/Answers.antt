@@ -8,7 +8,7 @@ use Rattle.parties.proofs.Searches.{try_byte, code_search}
 use Rattle.parties.proofs.same_code.Goals as goal
 
 pub loop-k-init : goal.loop-k-init
-loop-k-init c = (search rules, code_search _ _ _ (search rules))
+loop-k-init c = (search rules, rw c.row-at.ensures.begins (code_search _ _ _ (search rules)))
 
 pub returns-then-book-at : goal.returns-then-book-at
 unfolding try_byte

@@ -1,14 +1,14 @@
--- `record::record_length` meets its contract. The invariant: what is left to count are the fields from `field` on.
+-- `record::record_length` meets its contract. The invariant: what is left to count are the fields from `bit` on.
 -- Assumes nothing.
-use Prim.Native.Nat.{◌≤◌, ◌+◌, ◌-◌, ◌*◌}
-use mathlib.Core.Path.{◌≡◌}
-use lib.ListN.{length, drop}
+use Rattle.std.proofs.Common.{◌≡◌, ◌+◌, ◌*◌, ◌≤◌, length, get_or, drop}
 use Rattle.rules.specs.Records.{widths, kind_at, body}
 use Rattle.record.proofs.record_length.Given as goal
 
-abbrev pub invariant-loop-field : goal.invariant-loop-field
-invariant-loop-field l = (((l.field ≤ 15) × (length l.values ≡ 15)) × (l.length ≤ 2 + 4 * l.field))
-    × (2 + length (body (kind_at l.kind) 0 widths l.values) ≡ l.length + length (body (kind_at l.kind) l.field (drop l.field widths) (drop l.field l.values)))
-
-abbrev pub decreases-loop-field : goal.decreases-loop-field
-decreases-loop-field l = 15 - l.field
+abbrev pub invariant-loop-bit : goal.invariant-loop-bit
+invariant-loop-bit l =
+    let values = l.fn.fields.0 in
+    let kind = kind_at (get_or values 0 0) in
+    record {
+      few : l.length ≤ 2 + 4 * l.bit;
+      counted : 2 + length (body kind 0 widths values) ≡ l.length + length (body kind l.bit (drop l.bit widths) (drop l.bit values));
+    }

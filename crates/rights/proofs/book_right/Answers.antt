@@ -1,6 +1,7 @@
 -- `rights::book_right` meets its contract.
 -- Assumes nothing.
-use mathlib.Core.Path.{sym, ◌∙◌}
+use Prim.Native.Nat.{◌+◌, ◌*◌}
+use mathlib.Core.Path.{◌≡◌, sym, ◌∙◌}
 use native.Mathlib.Omega.{arith}
 use Rattle.rights.proofs.Rights.{has_room, opened_books, below, raised_books}
 use borrow.Author.Rules.{rules}
@@ -13,9 +14,15 @@ pub returns-in_default : goal.returns-in_default
 returns-in_default c = let n = sym c.right_by_entry.ensures ∙ c.in_default.is in
     opened_books _ _ _ _ _ _ n _ _ (has_room c.requires n) c.open_right.ensures
 
+pub row-requires : goal.row-requires
+row-requires c = let l = below _ _ _ _ _ _ (sym c.right_by_entry.ensures ∙ c.in-Some.is) in
+    omega arith
+
 pub add_five-requires : goal.add_five-requires
-add_five-requires c = let l = below _ _ _ _ _ _ (sym c.right_by_entry.ensures ∙ c.in-At.is) in
+add_five-requires c = let l = below _ _ _ _ _ _ (sym c.right_by_entry.ensures ∙ c.in-Some.is) in
     omega arith
 
 pub returns : goal.returns
-returns c = rw c.add_five.ensures (raised_books _ _ _ _ _ _ _ (sym c.right_by_entry.ensures ∙ c.in-At.is) c.cells_in.ensures.count (search rules))
+returns c =
+    let at : c.row.result + 3 ≡ 3382 + c.in-Some.i * 8 = (let e = c.row.ensures.begins in omega arith) in
+    rw (c.add_five.ensures, at) (raised_books _ _ _ _ _ _ _ (sym c.right_by_entry.ensures ∙ c.in-Some.is) c.cells_in.ensures.count (search rules))

@@ -1,14 +1,15 @@
 -- `setup::add_profile` meets its contract.
 -- Assumes nothing.
-use native.Mathlib.Omega.{arith}
-use Rattle.setup.proofs.Adding.{answers_no, adds_profile_lem, room, answers_number}
+use Rattle.std.proofs.lemmas.Result.{err_from_is_err_and}
+use Rattle.answers.proofs.Laws.{refused}
+use Rattle.setup.proofs.Adding.{adds_profile_lem, room, answers_number}
 use Rattle.setup.proofs.add_profile.Goals as goal
 
-pub place_row-requires : goal.place_row-requires
-place_row-requires c = omega (arith, room (adds_profile_lem _ _) c.in-Clear.is c.profile_verdict-verdict.ensures)
+pub returns-in_err-profile_verdict : goal.returns-in_err-profile_verdict
+returns-in_err-profile_verdict c = let p = err_from_is_err_and c.from_residual.result c.from_residual.ensures.1 in rw (p.1, p.2) (refused _ _ _ c.in_err-profile_verdict.ensures)
 
-pub returns-in-No : goal.returns-in-No
-returns-in-No c = answers_no _ _ _ c.in-No.is c.profile_verdict-verdict.ensures
+pub add_row-requires-clause-room : goal.add_row-requires-clause-room
+add_row-requires-clause-room c = room (adds_profile_lem _ _) c.in_ok-profile_verdict.ensures
 
-pub returns-in-Clear : goal.returns-in-Clear
-returns-in-Clear c = answers_number (adds_profile_lem _ _) c.in-Clear.is c.profile_verdict-verdict.ensures c.place_row.ensures
+pub returns : goal.returns
+returns c = answers_number (adds_profile_lem _ _) c.in_ok-profile_verdict.ensures c.cells_in.ensures c.add_row.ensures.number c.add_row.ensures.cells

@@ -1,20 +1,22 @@
--- `setup::direction_taken` meets its contract. The loop's invariant: the search from here on gives the answer.
+-- `setup::direction_taken` meets its contract.
 -- Assumes nothing.
-use mathlib.Core.Path.{◌∙◌}
-use native.Mathlib.Omega.{arith}
-use borrow.Author.Rules.{rules}
-use Rattle.cells.proofs.Turns.{each_start}
-use Rattle.setup.proofs.Searches.{found, not_found, none_found, direction_search}
+use Rattle.std.proofs.Common.{refl, ◌∙◌, arith, rules, tests}
+use Rattle.std.proofs.lemmas.Iterator.{YieldsList-from_range}
+use Rattle.std.proofs.lemmas.Iterator.Search.{any_from_yields_List}
+use Rattle.rules.specs.Setup.{direction_taken}
+use Rattle.cells.specs.View.{book_of, directions_in, direction_at}
+use Rattle.cells.proofs.Finds.{any_found}
+use Rattle.setup.specs.Work.{clashes}
+use Rattle.setup.proofs.Searches.{taken_any}
 use Rattle.setup.proofs.direction_taken.Goals as goal
 
-pub loop-k-init : goal.loop-k-init
-loop-k-init c = (omega (arith, c.count_in-count.ensures), rw c.count_in-count.ensures (direction_search _ _ _ _ ∙ each_start _ _ _))
-
-pub returns-then-direction_clashes : goal.returns-then-direction_clashes
-returns-then-direction_clashes c = found _ _ c.loop-k.invariant.1 c.loop-k-test.true c.direction_clashes.ensures c.if-direction_clashes.true
-
-pub loop-k-preserved : goal.loop-k-preserved
-loop-k-preserved c = (search rules, not_found _ _ c.loop-k.invariant.1 c.loop-k-test.true c.direction_clashes.ensures c.if-direction_clashes.false)
-
 pub returns : goal.returns
-returns c = none_found _ _ c.loop-k.invariant.1 c.loop-k-test.false
+unfolding book_of directions_in direction_taken clashes
+returns c =
+    let new = c.args.direction in
+    let test = clashes new.out new.into new.model in
+    let row = direction_at c.args.book.now in
+    let n = c.count-count.result in
+    rw (← c.count-count.ensures) (any_found test row n
+    (any_from_yields_List (λ i. test (row i)) _ _ _ c.any.ensures.ran (YieldsList-from_range 0 n n refl (omega arith)) (λ x b q k. search (rules, tests)))
+    ∙ taken_any test (direction_taken new.out new.into new.model) refl (λ x xs. refl) _)

@@ -1,10 +1,14 @@
 -- `stream::answer_next` meets its contract.
 -- Assumes nothing.
-use Rattle.std.proofs.Common.{refl, arith}
-use Rattle.stream.proofs.Answering.{answers_next}
+use Rattle.std.proofs.Common.{refl}
+use Rattle.stream.proofs.Answering.{TakenFrom, answers_next}
 use Rattle.stream.proofs.answer_next.Goals as goal
+use Rattle.stream.proofs.answer_next.Goals.{in-Ok, in-Err}
 
 pub returns : goal.returns
 returns c =
-    answers_next _ _ _ _ c.take_record-taken.result c.numbers-reply.result _ _ _ _ c.requires.0 c.requires.1.0 (omega arith) c.take_record-taken.ensures c.numbers-reply.ensures
-    c.write_line-filled.ensures refl
+    let taken : TakenFrom c.args.progress.now c.take_record.result c.match-take_record.progress c.match-take_record.answer = elim c.match-take_record.branch [
+      | in-Ok w ↦ rw (w.in-Ok.is, w.progress-is, w.answer-is, w.take.ensures) (refl, refl)
+      | in-Err w ↦ rw (w.in-Err.is, w.progress-is, w.answer-is) (refl, refl)
+    ] in
+    answers_next _ _ c.take_record.result _ (rw (← c.bytes.ensures) c.take_record.ensures) _ _ taken _ c.numbers-reply.ensures _ c.write_line.ensures.text

@@ -4,4 +4,4 @@ use Rattle.cells.proofs.Views.{shortfall_at_lem}
 use Rattle.tables.proofs.shortfall_at.Goals as goal
 
 pub returns : goal.returns
-returns c = rw (c.less.ensures, c.granted_at-granted.ensures, c.offered_at-offered.ensures, shortfall_at_lem c.args.book.now _ _ c.requires)
+returns c = rw (c.saturating_sub.ensures, c.granted_at.ensures, c.offered_at.ensures, shortfall_at_lem c.args.book.now _ _ c.args.at.in_tables)

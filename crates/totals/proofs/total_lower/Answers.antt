@@ -11,9 +11,9 @@ use Rattle.totals.proofs.total_lower.Goals as goal
 abbrev none : PairLower
 none = record { lower = [] }
 
-pub loop-i-init : goal.loop-i-init
+pub loop-pair-init : goal.loop-pair-init
 unfolding sum_of
-loop-i-init c = (omega arith, refl, record { first = omega arith; second = omega arith; third = omega arith; fourth = omega arith; fifth = omega arith })
+loop-pair-init c = (omega arith, refl, record { first = omega arith; second = omega arith; third = omega arith; fourth = omega arith; fifth = omega arith })
 
 turn : (l : List PairLower) (i : ℕ) (sums after : List ℕ) → i < length l → (i ≤ length l) × (sums ≡ totals (take i l)) × Most (i * 4294967295) sums
     → (after ≡ five (sum_in sums (get_or l i none))) × Most 4294967295 (get_or l i none).lower
@@ -22,5 +22,5 @@ turn l i sums after h inv e =
     let next : after ≡ totals (take (i + 1) l) = e.0 ∙ rw inv.1 (totals_next l i none h) in
     (omega arith, next, rw next (most_next l i none h (rw inv.1 at inv.2) e.1))
 
-pub loop-i-preserved : goal.loop-i-preserved
-loop-i-preserved c = turn c.args.list.now c.loop-i.i c.loop-i.sums c.with_lower-next.result c.loop-i-test.true c.loop-i.invariant c.with_lower-next.ensures
+pub loop-pair-preserved : goal.loop-pair-preserved
+loop-pair-preserved c = turn c.args.list.now c.loop-pair.pair-index c.loop-pair.sums c.with_lower-next.result (omega arith) c.loop-pair.invariant c.with_lower-next.ensures

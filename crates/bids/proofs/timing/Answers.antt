@@ -1,9 +1,0 @@
--- `bids::timing` meets its contract.
--- Assumes nothing.
-use mathlib.Core.Path.{◌∙◌}
-use Rattle.cells.specs.View.{book_of}
-use Rattle.bids.proofs.timing.Goals as goal
-
-pub returns : goal.returns
-unfolding book_of
-returns c = c.bid_timing.ensures ∙ rw (c.weekday-weekday.ensures, c.hours-hours.ensures)

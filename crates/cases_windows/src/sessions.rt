@@ -1,0 +1,111 @@
+// The sessions of each day and their hours.
+use super::{HOURS_OF_DAYS, MODELS, Model, Place};
+use cases_printing::Tally;
+use rules::Hour;
+use std::{fmt, io};
+
+// How many hours a session has, and the first of them. No `Option`: the line says 0 hours from 0 where it is not there.
+#[derive(Clone, Copy, PartialEq)]
+struct Hours {
+    count: u16,
+    first: u16,
+}
+
+impl fmt::Display for Hours {
+    fn fmt<W: fmt::Write>(&self, f: &mut fmt::Formatter<W>) -> fmt::Result {
+        write!(f, "{} hours from {}", self.count, self.first)
+    }
+}
+
+// ---- what the day says
+
+// The weekday plays no part here.
+fn session_of(place: Place, hour: u8) -> u8 {
+    let day = place.day(0);
+    day.session_of(place.model as u32, Hour(hour)).0
+}
+
+fn hours_of(place: Place) -> Hours {
+    let session = place.session_on(0);
+    Hours {
+        count: if session.is_there() {
+            session.hours() as u16
+        } else {
+            0
+        },
+        first: session.first_hour().map_or(0, |hour| hour.0 as u16),
+    }
+}
+
+// ---- cases
+
+fn session_case(
+    rt: &impl Print,
+    tally: &mut Tally,
+    place: Place,
+    expected: Hours,
+) -> io::Result<()> {
+    print!(rt; "{place}: ")?;
+    tally.compare(rt, &hours_of(place), &expected)
+}
+
+fn hour_case(rt: &impl Print, tally: &mut Tally, place: Place, hour: u16) -> io::Result<()> {
+    print!(rt; "{place}, hour {hour}: in session ")?;
+    tally.compare(rt, &session_of(place, (hour % 256) as u8), &place.session)
+}
+
+// The session and each of its hours.
+fn hour_cases(rt: &impl Print, tally: &mut Tally, place: Place) -> io::Result<()> {
+    let first = place.first();
+    let last = place.last();
+    let count = last.saturating_add(1).saturating_sub(first);
+    session_case(rt, tally, place, Hours { count, first })?;
+    for hour in first..=last {
+        hour_case(rt, tally, place, hour)?;
+    }
+    Ok(())
+}
+
+// Each session of a model, then the absent ones before the first and past the last.
+fn model_cases(rt: &impl Print, tally: &mut Tally, hours: u8, model: Model) -> io::Result<()> {
+    let sessions = super::session_count(hours, model);
+    for session in 1..=sessions {
+        hour_cases(
+            rt,
+            tally,
+            Place {
+                hours,
+                model,
+                session,
+            },
+        )?;
+    }
+    for session in [0, sessions.saturating_add(1)] {
+        let none = Hours { count: 0, first: 0 };
+        session_case(
+            rt,
+            tally,
+            Place {
+                hours,
+                model,
+                session,
+            },
+            none,
+        )?;
+    }
+    Ok(())
+}
+
+fn day_cases(rt: &impl Print, tally: &mut Tally, hours: u8) -> io::Result<()> {
+    for model in MODELS {
+        model_cases(rt, tally, hours, model)?;
+    }
+    Ok(())
+}
+
+pub fn run(rt: &impl Print, tally: &mut Tally) -> io::Result<()> {
+    for hours in HOURS_OF_DAYS {
+        day_cases(rt, tally, hours)?;
+    }
+    Ok(())
+}

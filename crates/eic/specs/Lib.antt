@@ -1,2 +1,0 @@
--- What the contracts of eic cite.
-pub mod Chars
