@@ -1,6 +1,6 @@
 -- What the public calls promise, of the cells before and after: reply and book are those of the rules.
 -- Assumes nothing.
-use Rattle.std.specs.Prelude.{ℕ, ◌≡◌, false, List, eqb, Result, Ok, Err}
+use Rattle.std.specs.Prelude.{ℕ, ◌≡◌, false, List, ◌==◌, Result, Ok, Err}
 use Rattle.rules.specs.Basics.{no_mw}
 use Rattle.rules.specs.Book.{Book}
 use Rattle.rules.specs.Calls.{Call, is_grant}
@@ -31,7 +31,7 @@ pub record Answers (before : List ℕ) (c : Call) (r : Answer) (after : List ℕ
 
 -- a refusal is that of the rules
 abbrev pub Refused : Book → Call → Refusal → Type 0
-Refused b c r = (eqb (number b c) 0 ≡ false) × (said_refusal r ≡ refusal b c (number b c))
+Refused b c r = ((number b c == 0) ≡ false) × (said_refusal r ≡ refusal b c (number b c))
 
 -- what the tests of a call find, beside what they found on the way, is the number of the rules
 abbrev pub Judged : {A : Type 0} → Book → Call → Result A Refusal → Type 0

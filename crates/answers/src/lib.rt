@@ -1,15 +1,18 @@
 // What the calls answer: a verdict before anything is stored, the replies of the reads, and the numbers of an answer. What each call promises stands in specs/.
 #![tactic(auto)]
 
-ghost use Rattle.std.specs.Prelude.{◌≡◌, ltb};
+ghost use Rattle.std.specs.Prelude.{◌≡◌, nat_lt};
 ghost use Rattle.rules.specs.Said.{said, said_refusal, said_numbers, capacity_number};
 ghost use Rattle.rules.specs.Refusals.{party_unknown, direction_unknown, profile_unknown, hour_unknown};
 ghost use Rattle.cells.specs.View.{book_of};
 ghost use Rattle.answers.specs.Promises.{window_verdict};
 ghost use Rattle.answers.specs.Capacities.{capacity_unknown, Finds};
+ghost use Rattle.answers.specs.Entries.{FindsDirection, FindsSession, FindsAccess, FindsRight};
 
 use cells::{Book, Place};
+use day::DaySession;
 use rules::{Answer, CapacityOf, Hour, Refusal, ReplyNumbers, Session, Timing};
+use tables::{Direction, RightKey};
 
 // What an offer is for and a read of what is left asks for: a direction or a profile, by number.
 #[derive(Clone, Copy, PartialEq, Eq)]
@@ -34,11 +37,11 @@ pub struct RightRead {
     pub mw: [u32; 5],
 }
 
-// ---- tests that several calls share
+// ---- tests that several calls share: of a direction, a profile and a party each for itself, since the rules have a definition for each
 
 // Earlier than the latest granted timed call.
 pub fn before_clock(book: &Book, time: u32) -> bool
-    ensures { result ≡ ltb time (book_of book.now).clock }
+    ensures { result ≡ nat_lt time (book_of book.now).clock }
 {
     time < cells::clock(book)
 }
@@ -89,6 +92,50 @@ pub fn party_unknown(book: &Book, party: u8) -> bool
     ensures { result ≡ party_unknown (book_of book.now) party }
 {
     cells::PARTIES.count(book) <= party as u32
+}
+
+// ---- entries by their numbers
+
+// A direction; none where it isn't there.
+#[tactic(auto, using(crate::proofs::Entries::no_direction))]
+pub fn direction_in(book: &Book, direction: u8) -> Option<Direction>
+    ensures { FindsDirection (book_of book.now) direction result }
+{
+    let row = cells::DIRECTIONS.rows(book).get(direction as usize)?;
+    Some(Direction::of_row(row))
+}
+
+// A session of a direction; none where either isn't there.
+pub fn session_in(book: &Book, direction: u8, session: Session) -> Option<DaySession>
+    ensures { FindsSession (book_of book.now) direction session result }
+{
+    let model = direction_in(book, direction)?.model;
+    let known = cells::day(book).session(model, session);
+    if known.is_there() { Some(known) } else { None }
+}
+
+// The map of a party's access; none where the party isn't there.
+#[tactic(auto, using(crate::proofs::Entries::no_party))]
+pub fn access_in(book: &Book, party: u8) -> Option<u32>
+    ensures { FindsAccess (book_of book.now) party result }
+{
+    let row = cells::PARTIES.rows(book).get(party as usize)?;
+    Some(row[16])
+}
+
+// A right; none where it isn't there.
+#[tactic(auto, using(crate::proofs::Entries::no_right))]
+pub fn right_in(book: &Book, right: u16) -> Option<RightRead>
+    ensures { FindsRight (book_of book.now) right result }
+{
+    let row = cells::RIGHTS.rows(book).get(right as usize)?;
+    let key = RightKey::of_row(row);
+    Some(RightRead {
+        holder: key.holder,
+        direction: key.direction,
+        session: key.session,
+        mw: [row[3], row[4], row[5], row[6], row[7]],
+    })
 }
 
 // What the window of a call finds.

@@ -1,3 +1,3 @@
-pub mod Tests
+pub mod Names
 pub mod Verdicts
 pub mod Placing

@@ -1,104 +1,151 @@
--- From the tests of a bid to the conditions of the rules.
+-- From the tests of a bid to its verdict: each test passed leaves fewer numbers, and one that holds is the first.
 -- Assumes nothing.
-use Rattle.std.specs.Prelude.{Option, Some, None}
-use Prim.Native.Nat.{ℕ, ◌+◌, ◌*◌, ◌<◌}
+use Rattle.std.specs.Prelude.{Option, Some, None, Ok, Err}
+use Prim.Native.Nat.{ℕ}
 use mathlib.Core.Path.{◌≡◌, refl, sym, ap, ◌∙◌}
 use mathlib.Core.Bool.{true, false, ◌||◌, not}
 use mathlib.Core.List.{List, [], ◌∷◌}
 use native.Mathlib.Omega.{arith}
 use native.Mathlib.Numerals.{one-add}
+use lib.Dec.{ltb}
 use lib.ListN.{length, drop}
-use borrow.Author.Tests.{leb-false, not-false}
 use Rattle.rules.specs.Basics.{bit, any_above}
-use Rattle.rules.specs.Sessions.{session_there, hours_in}
-use Rattle.rules.specs.Book.{Book, model_of, direction_limit, party_limit}
-use Rattle.rules.specs.Calls.{Bid}
+use Rattle.rules.specs.Windows.{latest, bid_timing}
+use Rattle.rules.specs.Book.{Book, model_of, Direction as RulesDirection}
 use Rattle.rules.specs.Said.{said_refusal}
 use Rattle.rules.specs.Bids.{Shortage, is_short}
 use Rattle.rules.specs.Details.{short_hour_of, short_capacity_of, refusal}
-use Rattle.rules.specs.Refusals.{order, first_of, setup_shut, taken, not_owner, cycle, party_unknown, direction_unknown, session_unknown, refuses, no_access, shortage_of}
+use Rattle.rules.specs.Refusals.{order, first_of, setup_shut, taken, not_owner, cycle, refuses, field, clock, unknown, timing_of, wrong_hours, hours_lacking, no_access, full, shortage_of}
 use Rattle.rules.specs.declared.Hour.{Hour}
 use Rattle.rules.specs.declared.CapacityOf.{CapacityOf}
 use Rattle.rules.specs.declared.CapacityOf.TheVariants.{Direction, Profile}
-use Rattle.rules.specs.declared.Refusal.TheVariants.{Short}
-use Rattle.rules.proofs.Bools.{or_left, or_right}
-use Rattle.cells.specs.Layout.{DIRECTIONS, PARTIES}
-use Rattle.cells.specs.View.{cell, counted, direction_at, book_of}
-use Rattle.cells.proofs.Views.{party_count, known_direction, access_at, direction_at_lem, model_at}
-use Rattle.capacity.specs.Search.{found}
+use Rattle.rules.specs.declared.Refusal.{Refusal}
+use Rattle.rules.specs.declared.Refusal.TheVariants.{Field, Clock, Unknown, Hours, Access, Full, Short}
+use Rattle.rules.specs.declared.Timing.{Timing}
 use Rattle.rules.proofs.Above.{zeros_from}
-use Rattle.answers.specs.Promises.{Refused}
-use Rattle.answers.proofs.Laws.{Left, pass, refuse, none_left}
-use Rattle.rights.specs.Work.{Enters}
-use Rattle.bids.specs.Work.{Cleared, SessionKnown, Searched}
+use Rattle.rules.proofs.Bools.{or_left}
+use Rattle.cells.specs.View.{book_of}
+use Rattle.answers.specs.Promises.{Refused, window_verdict}
+use Rattle.answers.proofs.Laws.{Left, pass, refuse, window_refused, window_passed, none_left}
+use Rattle.capacity.specs.Search.{shortage_in, found}
+use Rattle.capacity.proofs.View.{shortage_view}
+use Rattle.rights.specs.Work.{entry_in}
+use Rattle.rights.proofs.Rights.{full_refused, full_passed, refused_full}
+use Rattle.bids.specs.declared.BidCall.{BidCall}
+use Rattle.bids.specs.declared.Named.{Named}
+use Rattle.bids.specs.Work.{bid_of, Names, Cleared}
 
 -- the numbers that can apply to a bid
-pub bid_left : (b : Book) (t p d s : ℕ) (mw : List ℕ) → Left b (Bid t p d s mw) (3 ∷ 5 ∷ 6 ∷ 16 ∷ 8 ∷ 9 ∷ 10 ∷ 13 ∷ 15 ∷ [])
+all_left : (b : Book) (call : BidCall) → Left b (bid_of call) (3 ∷ 5 ∷ 6 ∷ 16 ∷ 8 ∷ 9 ∷ 10 ∷ 13 ∷ 15 ∷ [])
 unfolding first_of order refuses setup_shut taken not_owner cycle
-bid_left b t p d s mw = record { number_is = refl }
+all_left b call = record { number_is = refl }
 
--- ---- party, direction and session are there
+-- a bid within its window, and what it names: the numbers after 8 are left
+pub record InWindow (b : List ℕ) (call : BidCall) (n : Named) : Type 0 where
+  pub names : Names (book_of b) call n
+  pub left : Left (book_of b) (bid_of call) (9 ∷ 10 ∷ 13 ∷ 15 ∷ [])
 
-pub record KnownBid (b : List ℕ) (p d s : ℕ) : Type 0 where
-  pub party : p < counted b PARTIES party_limit
-  pub direction : d < counted b DIRECTIONS direction_limit
-  pub rows : (p < party_limit) × (d < direction_limit)
-  pub model_is : model_of (book_of b) d ≡ (direction_at b d).model
-  pub is_there : session_there (book_of b).day.hours (direction_at b d).model s ≡ true
+-- ---- up to the window
 
-pub known_bid : (b : List ℕ) (p d s : ℕ) → (party_unknown (book_of b) p || direction_unknown (book_of b) d || session_unknown (book_of b) d s) ≡ false → KnownBid b p d s
-known_bid b p d s e =
-    let a = or_left (party_unknown (book_of b) p || direction_unknown (book_of b) d) _ e in
-    let u : p < counted b PARTIES party_limit = rw (party_count b) at (leb-false (length (book_of b).parties) p (or_left _ _ a)) in
-    let l = known_direction b d (or_right (party_unknown (book_of b) p) _ a) in
-    let m = model_at b d l in
-    record {
-      party = u;
-      direction = l;
-      rows = (omega arith, omega arith);
-      model_is = m;
-      is_there = rw m at (not-false (session_there (book_of b).day.hours (model_of (book_of b) d) s) (or_right (party_unknown (book_of b) p || direction_unknown (book_of b) d) _ e));
-    }
+module _ (b : List ℕ) (call : BidCall) where
+  pub out_of_range : (ltb latest call.time || any_above 9999 call.mw) ≡ true → Refused (book_of b) (bid_of call) Field
+  unfolding refuses refusal field
+  out_of_range f = refuse Field (all_left (book_of b) call) f refl refl
 
--- ---- access
+  module _ (f : (ltb latest call.time || any_above 9999 call.mw) ≡ false) where
+    pub before_clock : ltb call.time (book_of b).clock ≡ true → Refused (book_of b) (bid_of call) Clock
+    unfolding refuses refusal field clock
+    before_clock c = refuse Clock (pass (all_left (book_of b) call) f) c refl refl
 
-pub access_is : (b : List ℕ) (t p d s : ℕ) (mw : List ℕ) → KnownBid b p d s
-    → no_access (book_of b) (Bid t p d s mw)
-    ≡ not (bit (cell b (PARTIES + 17 + p * 17)) (direction_at b d).out || bit (cell b (PARTIES + 17 + p * 17)) (direction_at b d).into)
-unfolding no_access
-access_is b t p d s mw k = rw (access_at b p k.party, direction_at_lem b d k.direction)
+    module _ (c : ltb call.time (book_of b).clock ≡ false) where
+      pub not_there : unknown (book_of b) (bid_of call) ≡ true → Refused (book_of b) (bid_of call) Unknown
+      unfolding refuses refusal field clock
+      not_there u = refuse Unknown (pass (pass (all_left (book_of b) call) f) c) u refl refl
 
--- ---- the hours of the session
+      module _ (n : Named) (k : Names (book_of b) call n)
+          {t : Timing} (at : t ≡ bid_timing n.session.day.hours n.session.day.weekday n.session.model n.session.session.0 call.time) where
+        to_window : Left (book_of b) (bid_of call) (16 ∷ 8 ∷ 9 ∷ 10 ∷ 13 ∷ 15 ∷ [])
+        unfolding refuses field clock
+        to_window = pass (pass (pass (all_left (book_of b) call) f) c) k.known
 
-pub session_known : (b : List ℕ) (p d s model : ℕ) (mw : List ℕ) → KnownBid b p d s → model ≡ (direction_at b d).model
-    → (any_above 0 (drop (hours_in (book_of b).day.hours model s) mw) || not (any_above 0 mw)) ≡ false → SessionKnown b model d s mw
-session_known b p d s model mw k m e =
-    record {
-      row = k.rows.1;
-      is_there = rw m k.is_there;
-      lacking = zeros_from (hours_in (book_of b).day.hours model s) mw (or_left _ _ e);
-    }
+        timing_is : t ≡ timing_of (book_of b) (bid_of call)
+        unfolding timing_of
+        timing_is = rw k.session_is at at
 
--- ---- the shortage
+        pub outside_window : {r : Refusal} → Err r ≡ window_verdict t → Refused (book_of b) (bid_of call) r
+        outside_window e = window_refused to_window timing_is e
+
+        pub past_window : {x : Unit {0}} → Ok x ≡ window_verdict t → InWindow b call n
+        past_window e = record { names = k; left = window_passed to_window timing_is e }
+
+-- ---- after the window
 
 short_said : (h : Hour) (l : CapacityOf) (s : Shortage) → found (Some (h, l)) ≡ s
     → (is_short s ≡ true) × (said_refusal (Short h l) ≡ record { number = 15; first = short_hour_of s; second = short_capacity_of s })
 short_said h Direction s e = rw (← e) (refl, refl)
 short_said h (Profile p) s e = rw (← e) (refl, rw (one-add p))
 
--- the search found what condition 15 asks for
-shortage_is : (b : List ℕ) (t p d s model : ℕ) (mw : List ℕ) (r : Option (Hour × CapacityOf)) → KnownBid b p d s → model ≡ (direction_at b d).model → Searched b model d s mw r
-    → found r ≡ shortage_of (book_of b) (Bid t p d s mw)
-unfolding shortage_of
-shortage_is b t p d s model mw r k m f = f.found_is ∙ rw (m, ← k.model_is)
+module _ {b : List ℕ} {call : BidCall} {n : Named} (w : InWindow b call n) where
+  hours_tested : (any_above 0 (drop n.hours.count call.mw) || not (any_above 0 call.mw)) ≡ wrong_hours (book_of b) (bid_of call)
+  unfolding wrong_hours hours_lacking
+  hours_tested = rw w.names.hours_are.count_is
 
--- a bid with nothing but 15 left to test
-module _ (b : List ℕ) (t p d s model : ℕ) (mw : List ℕ) {r : Option (Hour × CapacityOf)} (left : Left (book_of b) (Bid t p d s mw) (15 ∷ []))
-    (k : KnownBid b p d s) (m : model ≡ (direction_at b d).model) (f : Searched b model d s mw r) where
-  pub is_short_bid : (h : Hour) (l : CapacityOf) → r ≡ Some (h, l) → Refused (book_of b) (Bid t p d s mw) (Short h l)
+  access_tested : not (bit n.access n.direction.out || bit n.access n.direction.into) ≡ no_access (book_of b) (bid_of call)
+  unfolding no_access
+  access_tested = rw (w.names.access_is, ← w.names.direction_is)
+
+  model_is : n.direction.model ≡ model_of (book_of b) call.direction
+  model_is = ap (λ (x : RulesDirection). x.model) w.names.direction_is
+
+  pub wrong : (any_above 0 (drop n.hours.count call.mw) || not (any_above 0 call.mw)) ≡ true → Refused (book_of b) (bid_of call) Hours
   unfolding refuses refusal
-  is_short_bid h l e = let q = short_said h l _ (rw e at (shortage_is b t p d s model mw r k m f)) in refuse (Short h l) left q.0 refl q.1
+  wrong h = refuse Hours w.left (sym hours_tested ∙ h) refl refl
 
-  pub is_clear_bid : {e : Option ℕ} → Enters b (direction_at b d).model p d s e → r ≡ None → Cleared b t p d s mw e
-  unfolding refuses
-  is_clear_bid w e = record { clear = none_left (pass left (ap is_short (sym (rw e at (shortage_is b t p d s model mw r k m f))))); enters = w }
+  module _ (h : (any_above 0 (drop n.hours.count call.mw) || not (any_above 0 call.mw)) ≡ false) where
+    past_hours : Left (book_of b) (bid_of call) (10 ∷ 13 ∷ 15 ∷ [])
+    unfolding refuses
+    past_hours = pass w.left (sym hours_tested ∙ h)
+
+    pub barred : not (bit n.access n.direction.out || bit n.access n.direction.into) ≡ true → Refused (book_of b) (bid_of call) Access
+    unfolding refuses refusal
+    barred a = refuse Access past_hours (sym access_tested ∙ a) refl refl
+
+    module _ (a : not (bit n.access n.direction.out || bit n.access n.direction.into) ≡ false) where
+      past_access : Left (book_of b) (bid_of call) (13 ∷ 15 ∷ [])
+      unfolding refuses
+      past_access = pass past_hours (sym access_tested ∙ a)
+
+      pub no_room : {r : Refusal} → Err r ≡ entry_in b n.direction.model call.party call.direction call.session.0 → Refused (book_of b) (bid_of call) r
+      unfolding refuses refusal full
+      no_room e = rw (refused_full b n.direction.model call.party call.direction call.session.0 e)
+          (refuse Full past_access (rw model_is at (full_refused b n.direction.model call.party call.direction call.session.0 e)) refl refl)
+
+      module _ {entry : Option ℕ} (e : Ok entry ≡ entry_in b n.direction.model call.party call.direction call.session.0)
+          {r : Option (Hour × CapacityOf)} (s : r ≡ shortage_in b n.hours.direction n.hours.first.0 n.hours.count call.mw) where
+        to_shortage : Left (book_of b) (bid_of call) (15 ∷ [])
+        unfolding refuses full
+        to_shortage = pass past_access (rw model_is at (full_passed b n.direction.model call.party call.direction call.session.0 e))
+
+        shortage_is : length call.mw ≡ 5 → found r ≡ shortage_of (book_of b) (bid_of call)
+        unfolding shortage_of
+        shortage_is size =
+            let inside = n.hours.inside in
+            let z = zeros_from n.hours.count call.mw (or_left _ (not (any_above 0 call.mw)) h) in
+            ap found s
+            ∙ shortage_view b n.hours.direction n.hours.first.0 n.hours.count call.mw (omega arith) z
+            ∙ rw (w.names.hours_are.direction_is, w.names.hours_are.first_is)
+
+        module _ (size : length call.mw ≡ 5) where
+          pub short : {hour : Hour} {of : CapacityOf} → r ≡ Some (hour, of) → Refused (book_of b) (bid_of call) (Short hour of)
+          unfolding refuses refusal
+          short {hour} {of} q = let said = short_said hour of _ (rw q at (shortage_is size)) in refuse (Short hour of) to_shortage said.0 refl said.1
+
+          pub nothing_against : r ≡ None → Cleared b call (record { hours = n.hours; model = n.direction.model; entry = entry })
+          unfolding refuses
+          nothing_against q =
+              record {
+                clear = none_left (pass to_shortage (ap is_short (sym (rw q at (shortage_is size)))));
+                hours_are = w.names.hours_are;
+                model_is = model_is;
+                enters = record { entry_is = e };
+              }

@@ -1,48 +1,65 @@
--- What the private workers of a bid find and leave.
+-- The call that a bid makes, and what the private workers of a bid find and leave.
 -- Assumes nothing.
-use Rattle.std.specs.Prelude.{ℕ, ◌≤◌, ◌<◌, ◌≡◌, true, List, get_or, Option, Result, Ok, Err}
-use Rattle.rules.specs.declared.Refusal.{Refusal}
-use Rattle.rules.specs.declared.Hour.{Hour}
-use Rattle.rules.specs.declared.CapacityOf.{CapacityOf}
-use Rattle.rules.specs.Sessions.{session_there, first_hour, hours_in}
-use Rattle.rules.specs.Book.{direction_limit}
-use Rattle.rules.specs.Bids.{shortage}
-use Rattle.rules.specs.Calls.{Bid}
-use Rattle.rules.specs.Refusals.{number}
+use Rattle.std.specs.Prelude.{ℕ, ◌≡◌, true, false, List, Option, Some, None, Result, Ok, Err}
+use Rattle.rules.specs.Sessions.{first_hour, hours_in}
+use Rattle.rules.specs.Book.{Book, party, direction, model_of}
+use Rattle.rules.specs.Calls.{Call, Bid}
+use Rattle.rules.specs.Refusals.{unknown, number}
 use Rattle.rules.specs.Effects.{effect}
 use Rattle.rules.specs.Details.{detail}
-use Rattle.cells.specs.View.{direction_at, book_of}
-use Rattle.capacity.specs.Search.{found}
+use Rattle.rules.specs.declared.Refusal.{Refusal}
+use Rattle.cells.specs.View.{book_of}
+use Rattle.tables.specs.Rows.{direction_of}
+use Rattle.answers.specs.Entries.{session_of}
 use Rattle.answers.specs.Promises.{Refused}
+use Rattle.capacity.specs.declared.SessionHours.{SessionHours}
 use Rattle.rights.specs.Work.{Enters}
+use Rattle.bids.specs.declared.BidCall.{BidCall}
+use Rattle.bids.specs.declared.Named.{Named}
+use Rattle.bids.specs.declared.Booking.{Booking}
+
+-- 01, The list of demand 3: the call, by its numbers
+abbrev pub bid_of : BidCall → Call
+bid_of call = Bid call.time call.party call.direction call.session.0 call.mw
+
+-- ---- the tests
+
+-- 01, Sessions: the hours of the session that a bid names
+pub record HoursOf (b : Book) (call : BidCall) (h : SessionHours) : Type 0 where
+  pub direction_is : h.direction ≡ call.direction
+  pub first_is : h.first.0 ≡ first_hour b.day.hours (model_of b call.direction) call.session.0
+  pub count_is : h.count ≡ hours_in b.day.hours (model_of b call.direction) call.session.0
+
+-- 01, Offers and bids: what a bid names, party, direction and session, is there, and this is it
+pub record Names (b : Book) (call : BidCall) (n : Named) : Type 0 where
+  pub known : unknown b (bid_of call) ≡ false
+  pub access_is : n.access ≡ (party b.parties call.party).access
+  pub direction_is : direction_of n.direction ≡ direction b.directions call.direction
+  pub session_is : n.session ≡ session_of b call.direction call.session
+  pub hours_are : HoursOf b call n.hours
+
+-- 01, What the book says no to, 6: none where a party, direction or session isn't there
+abbrev pub FindsNamed : Book → BidCall → Option Named → Type 0
+FindsNamed b call None = unknown b (bid_of call) ≡ true
+FindsNamed b call (Some n) = Names b call n
 
 -- ---- the verdict
 
--- nothing is against the bid, and this is its entry
-pub record Cleared (b : List ℕ) (time p d s : ℕ) (mw : List ℕ) (e : Option ℕ) : Type 0 where
-  pub clear : number (book_of b) (Bid time p d s mw) ≡ 0
-  pub enters : Enters b (direction_at b d).model p d s e
+-- 01, Offers and bids: no number applies, and this is what the bid books
+pub record Cleared (b : List ℕ) (call : BidCall) (x : Booking) : Type 0 where
+  pub clear : number (book_of b) (bid_of call) ≡ 0
+  pub hours_are : HoursOf (book_of b) call x.hours
+  pub model_is : x.model ≡ model_of (book_of b) call.direction
+  pub enters : Enters b x.model call.party call.direction call.session.0 x.entry
 
--- what the tests of a bid find is the number of the rules
-abbrev pub JudgedBid : List ℕ → ℕ → ℕ → ℕ → ℕ → List ℕ → Result (Option ℕ) Refusal → Type 0
-JudgedBid b time p d s mw (Ok e) = Cleared b time p d s mw e
-JudgedBid b time p d s mw (Err r) = Refused (book_of b) (Bid time p d s mw) r
-
--- ---- the search for a shortage
-
--- the direction and its session are there, and MW for hours that the session lacks are 0
-pub record SessionKnown (b : List ℕ) (model d s : ℕ) (mw : List ℕ) : Type 0 where
-  pub row : d < direction_limit
-  pub is_there : session_there (book_of b).day.hours model s ≡ true
-  pub lacking : (k : ℕ) → hours_in (book_of b).day.hours model s ≤ k → get_or mw k 0 ≡ 0
-
--- it finds what the rules' search finds
-pub record Searched (b : List ℕ) (model d s : ℕ) (mw : List ℕ) (r : Option (Hour × CapacityOf)) : Type 0 where
-  pub found_is : found r ≡ shortage (book_of b) d (first_hour (book_of b).day.hours model s) mw
+-- 01, What the book says no to: the tests of a bid find the number of the rules
+abbrev pub JudgedBid : List ℕ → BidCall → Result Booking Refusal → Type 0
+JudgedBid b call (Ok x) = Cleared b call x
+JudgedBid b call (Err r) = Refused (book_of b) (bid_of call) r
 
 -- ---- the granted bid
 
--- the whole effect of the granted bid
-pub record Placed (b : List ℕ) (time p d s : ℕ) (mw : List ℕ) (n : ℕ) (b' : List ℕ) : Type 0 where
-  pub number_is : n ≡ detail (book_of b) (Bid time p d s mw)
-  pub book_is : book_of b' ≡ effect (book_of b) (Bid time p d s mw)
+-- 01, Offers and bids: the whole effect of the granted bid
+pub record Placed (b : List ℕ) (call : BidCall) (n : ℕ) (b' : List ℕ) : Type 0 where
+  pub number_is : n ≡ detail (book_of b) (bid_of call)
+  pub book_is : book_of b' ≡ effect (book_of b) (bid_of call)

@@ -1,181 +1,152 @@
 // Bids. A bid is checked whole before anything is stored.
 #![tactic(auto)]
 
-ghost use Rattle.std.specs.Prelude.{◌≡◌, ◌||◌, not, true, ◌+◌, ◌*◌, ◌<◌, ltb, drop};
+ghost use Rattle.std.specs.Prelude.{◌≡◌, ◌||◌, not, nat_lt, drop};
 ghost use Rattle.rules.specs.Basics.{bit, any_above};
-ghost use Rattle.rules.specs.Sessions.{session_there, hours_in, first_hour_there};
-ghost use Rattle.rules.specs.Windows.{latest, bid_timing};
-ghost use Rattle.rules.specs.Book.{direction_limit, party_limit};
-ghost use Rattle.rules.specs.Calls.{Bid};
-ghost use Rattle.rules.specs.Refusals.{party_unknown, direction_unknown, session_unknown};
-ghost use Rattle.cells.specs.Layout.{PARTIES};
-ghost use Rattle.cells.specs.View.{cell, book_of, day_hours_in, direction_at};
+ghost use Rattle.rules.specs.Windows.{latest};
+ghost use Rattle.cells.specs.View.{book_of};
 ghost use Rattle.answers.specs.Promises.{Answers};
-ghost use Rattle.bids.specs.Work.{Cleared, JudgedBid, SessionKnown, Searched, Placed};
+ghost use Rattle.bids.specs.Work.{bid_of, FindsNamed, JudgedBid, Cleared, Placed};
 
 use capacity::SessionHours;
 use cells::Book;
-use rules::{Answer, CapacityOf, Hour, Refusal, Session, Timing};
-use tables::RightKey;
+use day::DaySession;
+use rules::{Answer, Refusal, Session};
+use tables::{Direction, RightKey};
+
+// A party's bid: the MW that it asks for in each hour of a direction's session, and when.
+#[derive(Clone, Copy)]
+pub struct BidCall {
+    pub time: u32,
+    pub party: u8,
+    pub direction: u8,
+    pub session: Session,
+    pub mw: [u16; 5],
+}
+
+impl BidCall {
+    // What tells the standing right that the bid adds to from others.
+    fn key(self) -> RightKey
+        ensures { result ≡ record { holder = self.party; direction = self.direction; session = self.session } }
+    {
+        RightKey {
+            holder: self.party,
+            direction: self.direction,
+            session: self.session,
+        }
+    }
+}
+
+// What a bid names, as the book has it: the access of its party, its direction, its session and the hours of the session.
+#[derive(Clone, Copy)]
+struct Named {
+    access: u32,
+    direction: Direction,
+    session: DaySession,
+    hours: SessionHours,
+}
+
+// What a bid that nothing refuses books: its hours, the model of its session, the entry that takes its right.
+#[derive(Clone, Copy)]
+struct Booking {
+    hours: SessionHours,
+    model: u32,
+    entry: Option<u32>,
+}
 
 // ---- tests
 
 // The time or a MW is out of range.
-fn bid_field(time: u32, mw: [u16; 5]) -> bool
-    ensures { result ≡ (ltb latest time || any_above 9999 mw) }
+fn bid_field(call: BidCall) -> bool
+    ensures { result ≡ (nat_lt latest call.time || any_above 9999 call.mw) }
 {
-    time > rules::LATEST || capacity::any_above(rules::MOST_MW, mw, 0)
+    call.time > rules::LATEST || capacity::any_above(rules::MOST_MW, call.mw, 0)
 }
 
-fn bid_unknown(book: &Book, party: u8, direction: u8, session: Session) -> bool
-    ensures { result ≡ (party_unknown (book_of book.now) party || direction_unknown (book_of book.now) direction || session_unknown (book_of book.now) direction session.0) }
+// None where the party, the direction or the session isn't there.
+fn named_in(book: &Book, call: BidCall) -> Option<Named>
+    ensures { FindsNamed (book_of book.now) call result }
 {
-    if answers::party_unknown(book, party) {
-        return true;
-    }
-    if answers::direction_unknown(book, direction) {
-        return true;
-    }
-    let model = tables::direction_at(book, direction).model;
-    !cells::day(book).session(model, session).is_there()
-}
-
-// Where the time stands to the session's bids.
-#[tactic(auto, unfolding(cells::specs::View::book_of))]
-fn timing(book: &Book, model: u32, session: Session, time: u32) -> Timing
-    ensures { result ≡ bid_timing (book_of book.now).day.hours (book_of book.now).day.weekday model session.0 time }
-{
-    windows::bid_timing(cells::day(book).session(model, session), time)
+    let access = answers::access_in(book, call.party)?;
+    let direction = answers::direction_in(book, call.direction)?;
+    let session = cells::day(book).session(direction.model, call.session);
+    let first = session.first_hour()?;
+    let hours = SessionHours {
+        direction: call.direction,
+        first,
+        count: session.hours(),
+    };
+    Some(Named {
+        access,
+        direction,
+        session,
+        hours,
+    })
 }
 
 // MW for an hour that the session lacks, or none at all.
-fn wrong_hours(book: &Book, model: u32, session: Session, mw: [u16; 5]) -> bool
-    ensures { result ≡ (any_above 0 (drop (hours_in (book_of book.now).day.hours model session.0) mw) || not (any_above 0 mw)) }
+fn wrong_hours(hours: SessionHours, mw: [u16; 5]) -> bool
+    ensures { result ≡ (any_above 0 (drop hours.count mw) || not (any_above 0 mw)) }
 {
-    let count = cells::day(book).session(model, session).hours();
-    capacity::any_above(0, mw, count) || !capacity::any_above(0, mw, 0)
+    capacity::any_above(0, mw, hours.count) || !capacity::any_above(0, mw, 0)
 }
 
-fn no_access(book: &Book, party: u8, direction: u8) -> bool
-    requires { (party < party_limit) × (direction < direction_limit) }
-    ensures { result ≡ not (bit (cell book.now (PARTIES + 17 + party * 17)) (direction_at book.now direction).out || bit (cell book.now (PARTIES + 17 + party * 17)) (direction_at book.now direction).into) }
+fn no_access(access: u32, direction: Direction) -> bool
+    ensures { result ≡ not (bit access direction.out || bit access direction.into) }
 {
-    let map = book[cells::PARTIES.row(party as u32) + 16];
-    let there = tables::direction_at(book, direction);
-    !(rules::has_bit(map, there.out) || rules::has_bit(map, there.into))
+    !(rules::has_bit(access, direction.out) || rules::has_bit(access, direction.into))
 }
 
 // ---- the verdict
 
-// The hours of a session that is there.
-fn session_hours(book: &Book, model: u32, direction: u8, session: Session) -> SessionHours
-    requires { (direction < direction_limit) × (session_there (day_hours_in book.now) model session.0 ≡ true) }
-    ensures direction { result.direction ≡ direction }
-    ensures first { result.first.0 ≡ first_hour_there (day_hours_in book.now) model session.0 }
-    ensures count { result.count ≡ hours_in (day_hours_in book.now) model session.0 }
+fn bid_verdict(book: &Book, call: BidCall) -> Result<Booking, Refusal>
+    ensures { JudgedBid book.now call result }
 {
-    let known = cells::day(book).session(model, session);
-    SessionHours {
-        direction,
-        first: known.first_hour().unwrap(),
-        count: known.hours(),
-    }
-}
-
-// The search for a shortage over the hours of the session.
-fn bid_shortage(
-    book: &Book,
-    model: u32,
-    direction: u8,
-    session: Session,
-    mw: [u16; 5],
-) -> Option<(Hour, CapacityOf)>
-    requires { SessionKnown book.now model direction session.0 mw }
-    ensures { Searched book.now model direction session.0 mw result }
-{
-    capacity::shortage(book, session_hours(book, model, direction, session), mw)
-}
-
-// Where nothing is against the bid, its entry.
-fn bid_verdict(
-    book: &Book,
-    time: u32,
-    party: u8,
-    direction: u8,
-    session: Session,
-    mw: [u16; 5],
-) -> Result<Option<u32>, Refusal>
-    ensures { JudgedBid book.now time party direction session.0 mw result }
-{
-    if bid_field(time, mw) {
+    if bid_field(call) {
         return Err(Refusal::Field);
     }
-    if answers::before_clock(book, time) {
+    if answers::before_clock(book, call.time) {
         return Err(Refusal::Clock);
     }
-    if bid_unknown(book, party, direction, session) {
+    let Some(named) = named_in(book, call) else {
         return Err(Refusal::Unknown);
-    }
-    let model = tables::direction_at(book, direction).model;
-    answers::window_verdict(timing(book, model, session, time))?;
-    if wrong_hours(book, model, session, mw) {
+    };
+    answers::window_verdict(windows::bid_timing(named.session, call.time))?;
+    if wrong_hours(named.hours, call.mw) {
         return Err(Refusal::Hours);
     }
-    if no_access(book, party, direction) {
+    if no_access(named.access, named.direction) {
         return Err(Refusal::Access);
     }
-    let entry = rights::entry_of(book, model, key_of(party, direction, session))?;
-    let short = bid_shortage(book, model, direction, session, mw);
-    if let Some((hour, capacity)) = short {
+    let model = named.direction.model;
+    let entry = rights::entry_of(book, model, call.key())?;
+    if let Some((hour, capacity)) = capacity::shortage(book, named.hours, call.mw) {
         return Err(Refusal::Short(hour, capacity));
     }
-    Ok(entry)
-}
-
-fn key_of(party: u8, direction: u8, session: Session) -> RightKey
-    ensures { result ≡ record { holder = party; direction = direction; session = session } }
-{
-    RightKey {
-        holder: party,
-        direction,
-        session,
-    }
+    Ok(Booking {
+        hours: named.hours,
+        model,
+        entry,
+    })
 }
 
 // ---- a granted bid
 
 // The stores of a granted bid: the number of its right.
-fn place_bid(
-    book: &mut Book,
-    time: u32,
-    party: u8,
-    direction: u8,
-    session: Session,
-    mw: [u16; 5],
-    entry: Option<u32>,
-) -> u32
-    requires { Cleared book.old time party direction session.0 mw entry }
-    ensures { Placed book.old time party direction session.0 mw result book.new }
+fn place_bid(book: &mut Book, call: BidCall, booking: Booking) -> u32
+    requires { Cleared book.old call booking }
+    ensures { Placed book.old call result book.new }
 {
     cells::cells_in(book);
-    let model = tables::direction_at(book, direction).model;
-    let hours = session_hours(book, model, direction, session);
-    capacity::grant_hours(book, hours, mw);
-    let number = rights::book_right(book, entry, model, key_of(party, direction, session), mw);
-    stores::set_clock(book, time);
+    capacity::grant_hours(book, booking.hours, call.mw);
+    let number = rights::book_right(book, booking.entry, booking.model, call.key(), call.mw);
+    stores::set_clock(book, call.time);
     number
 }
 
-pub fn bid(
-    book: &mut Book,
-    time: u32,
-    party: u8,
-    direction: u8,
-    session: Session,
-    mw: [u16; 5],
-) -> Answer
-    ensures { Answers book.old (Bid time party direction session.0 mw) result book.new }
+pub fn bid(book: &mut Book, call: BidCall) -> Answer
+    ensures { Answers book.old (bid_of call) result book.new }
 {
-    let entry = bid_verdict(book, time, party, direction, session, mw)?;
-    Ok(place_bid(book, time, party, direction, session, mw, entry))
+    let booking = bid_verdict(book, call)?;
+    Ok(place_bid(book, call, booking))
 }

@@ -117,8 +117,8 @@ fn make_calls(book: &mut Book, tally: &mut Tally, load: Load) -> u32 {
 fn run(rt: &impl Print, load: Load) -> io::Result<()> {
     let rights = rights_of(load.calls);
     let mut book = [0u32; cells::CELLS];
-    let mut set_up = Tally::new();
-    let mut tally = Tally::new();
+    let mut set_up = Tally::default();
+    let mut tally = Tally::default();
     callrate_books::fill(&mut book, &mut set_up, rights);
     let sum = make_calls(&mut book, &mut tally, load);
     if rights.is_none() {

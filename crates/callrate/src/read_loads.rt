@@ -26,8 +26,8 @@ pub fn confirmed(book: &mut Book, rights: Rights, calls: u32) -> u32 {
     sum
 }
 
-// The directions and then the profiles, as `callrate_choices::offered_at` has them. Tried with what that makes: a match on it takes a
-// twenty-fifth more instructions in this load.
+// The directions and then the profiles, as `callrate_choices::offered_at` has them, but by number: a match on what that makes takes 4 % more
+// instructions of the load `left` (callgrind, docs/SPEED.md).
 fn left_of(book: &Book, row: u8, hour: Hour) -> Result<LeftRead, Refusal> {
     if row < 24 {
         return daybook::left_of_direction(book, row, hour);

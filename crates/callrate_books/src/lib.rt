@@ -9,20 +9,13 @@ use rules::{Answer, Hour, ReplyNumbers, Session};
 // ---- answers
 
 // How many calls had each answer, by its number, which is below 32; and the sum of all their numbers and details, modulo 2^32.
-#[derive(Clone, Copy)]
+#[derive(Clone, Copy, Default)]
 pub struct Tally {
     pub answers: [u32; 32],
     pub sum: u32,
 }
 
 impl Tally {
-    pub fn new() -> Tally {
-        Tally {
-            answers: [0; 32],
-            sum: 0,
-        }
-    }
-
     fn count(&mut self, answer: Answer) {
         let reply = daybook::numbers(answer);
         let number = (reply.number % 32) as usize;
@@ -73,7 +66,7 @@ fn offer(book: &mut Book, time: u32, offered: Capacity, hour: Hour, mw: u16) -> 
     }
 }
 
-// Each offer of the last hour is cut to 100 MW, for some rows under what is granted.
+// Each offer of the last hour is cut to 100 MW, for some rows under what is granted. The answers aren't looked at: what is left afterwards is what counts.
 pub fn cut_offers(book: &mut Book) {
     for k in 0..OFFERED_COUNT {
         let _ = offer(book, 2300, callrate_choices::offered_at(k), Hour(24), 100);
@@ -119,6 +112,7 @@ pub fn make_bids(book: &mut Book, tally: &mut Tally, bids: Bids, calls: u32) -> 
     tally.sum
 }
 
+// For the load that follows, whose own answers are summed, so that these aren't looked at.
 fn fill_rights(book: &mut Book, rights: Rights) {
     for r in 0..rights.count() {
         let _ = bid(book, rights.bid(r));
@@ -139,7 +133,7 @@ fn nominate(book: &mut Book, rights: Rights, pair: u32, i: u32) -> Answer {
     )
 }
 
-// All out sides of 512 pairs, then all in sides.
+// All out sides of 512 pairs, then all in sides. The answers aren't looked at, as in `fill_rights`.
 fn fill_pairs(book: &mut Book, rights: Rights) {
     for i in 0..1024u32 {
         let _ = nominate(book, rights, i % 512, i);
@@ -157,7 +151,7 @@ pub fn make_nominations(book: &mut Book, rights: Rights, calls: u32) -> u32 {
     sum
 }
 
-// 512 pairs that are confirmed.
+// 512 pairs that are confirmed. The answers aren't looked at: the reads that follow show what was confirmed.
 pub fn match_pairs(book: &mut Book, rights: Rights) {
     fill_pairs(book, rights);
     for direction in 0..8u8 {

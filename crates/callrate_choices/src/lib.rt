@@ -3,6 +3,7 @@
 
 use answers::Capacity;
 
+// A row of numbers for `daybook::bid`, as the plain program of bench/ has it; `bids::BidCall` has a `Session`, and lies below the calls that are measured.
 #[derive(Clone, Copy)]
 pub struct Bid {
     pub time: u32,
@@ -132,6 +133,7 @@ pub fn bid_of(bids: Bids, i: u32) -> Bid {
 
 // ---- pairs and nominations
 
+// In the numbers that the calls of `daybook` take; in `pairs::PairKey` they are cells.
 #[derive(Clone, Copy)]
 pub struct Pair {
     pub right: u16,
@@ -139,6 +141,7 @@ pub struct Pair {
     pub into: u8,
 }
 
+// All that `daybook::nominate` takes but the time, which is that of the whole load; `nomination_tests::NominationCall` has that too.
 #[derive(Clone, Copy)]
 pub struct Nomination {
     pub sender: u8,

@@ -1,6 +1,6 @@
 -- The search for a shortage as the code makes it, and what it found in the rules' terms.
 -- Assumes nothing.
-use Rattle.std.specs.Prelude.{ℕ, suc, ◌+◌, ◌<◌, ◌≤◌, Bool, cond, ◌&&◌, List, nat_lt, slice_index, Option, Some, None}
+use Rattle.std.specs.Prelude.{ℕ, suc, ◌+◌, ◌<◌, ◌≤◌, Bool, if◌then◌else◌, ◌&&◌, List, nat_lt, slice_index, Option, Some, None}
 use Rattle.rules.specs.Basics.{bit}
 use Rattle.rules.specs.Book.{left_at, of_profile, direction_limit, profile_limit}
 use Rattle.rules.specs.Bids.{Shortage, nothing_short, short_at}
@@ -30,14 +30,12 @@ profile_short_in b d hour mw p = bit (cell b (PROFILES + 1 + p)) d && nat_lt (le
 
 -- profile p is named where it is short, else what the rest finds
 unfoldable pub try_profile : List ℕ → ℕ → ℕ → ℕ → ℕ → Option (Hour × CapacityOf) → Option (Hour × CapacityOf)
-try_profile b d hour mw p rest = cond (profile_short_in b d hour mw p) (Some (record { 0 = hour }, Profile p)) rest
+try_profile b d hour mw p rest = if profile_short_in b d hour mw p then Some (record { 0 = hour }, Profile p) else rest
 
 -- hour number k: the direction, then the profiles, then what the later hours find
 unfoldable pub try_hour : List ℕ → ℕ → ℕ → List ℕ → ℕ → Option (Hour × CapacityOf) → Option (Hour × CapacityOf)
 try_hour b d first mw k rest =
-    cond (nat_lt (left_at (book_of b) d (first + k)) (slice_index mw k))
-    (Some (record { 0 = first + k }, Direction))
-    (each (try_profile b d (first + k) (slice_index mw k)) (counted b PROFILES profile_limit) 0 rest)
+    if nat_lt (left_at (book_of b) d (first + k)) (slice_index mw k) then Some (record { 0 = first + k }, Direction) else each (try_profile b d (first + k) (slice_index mw k)) (counted b PROFILES profile_limit) 0 rest
 
 -- n hours from the first on
 unfoldable pub shortage_in : List ℕ → ℕ → ℕ → ℕ → List ℕ → Option (Hour × CapacityOf)

@@ -57,7 +57,7 @@ impl DirectionHour {
         is_short(book, at, asked)
     }
 
-    // A profile holds the direction and has less left.
+    // A profile holds the direction and has less left. By its number, as `grant_profile`.
     fn profile_short(self, book: &Book, profile: u8, asked: u16) -> bool
         requires { profile < profile_limit }
         ensures { result ≡ profile_short_in book.now self.direction self.hour.0 asked profile }
@@ -72,7 +72,7 @@ impl DirectionHour {
 }
 
 // The first hour that is short, and in it the direction before the profiles, the lowest profile first.
-// The loops stay: the scope names labelled loops for this search.
+// The loops stay: document 01 names labelled loops for this search.
 pub fn shortage(book: &Book, hours: SessionHours, mw: [u16; 5]) -> Option<(Hour, CapacityOf)>
     ensures { result ≡ shortage_in book.now hours.direction hours.first.0 hours.count mw }
 {
@@ -89,9 +89,9 @@ pub fn shortage(book: &Book, hours: SessionHours, mw: [u16; 5]) -> Option<(Hour,
             found = Some((hour, CapacityOf::Direction));
             break 'hours;
         }
-        'profiles: for p in 0..profiles {
-            if at.profile_short(book, p, asked) {
-                found = Some((hour, CapacityOf::Profile(p)));
+        for profile in 0..profiles {
+            if at.profile_short(book, profile, asked) {
+                found = Some((hour, CapacityOf::Profile(profile)));
                 break 'hours;
             }
         }
@@ -101,10 +101,9 @@ pub fn shortage(book: &Book, hours: SessionHours, mw: [u16; 5]) -> Option<(Hour,
 
 // A MW above `most` is among those from number `from` on.
 pub fn any_above(most: u16, mw: [u16; 5], from: u8) -> bool
-    requires { from ≤ 5 }
     ensures { result ≡ any_above most (drop from mw) }
 {
-    mw[from as usize..].iter().any(|asked| *asked > most)
+    mw.iter().skip(from as usize).any(|asked| *asked > most)
 }
 
 // ---- granting
@@ -118,7 +117,7 @@ fn add(book: &mut Book, at: usize, mw: u16)
 }
 
 impl DirectionHour {
-    // MW of a profile, where it holds the direction.
+    // MW of a profile, where it holds the direction. By its number: it stores in the book that a slice of rows would borrow.
     fn grant_profile(self, book: &mut Book, profile: u8, mw: u16)
         requires { profile < profile_limit }
         ensures { book.new ≡ granted_profile self.direction self.hour.0 mw profile book.old }
@@ -149,26 +148,27 @@ impl DirectionHour {
     }
 }
 
-// The MW of each hour, on the direction and on each profile that holds it. The position in the session also gives the hour.
+// The MW of each hour, on the direction and on each profile that holds it.
 pub fn grant_hours(book: &mut Book, hours: SessionHours, mw: [u16; 5])
     ensures { book.new ≡ granted_hours (counted book.old PROFILES profile_limit) hours.direction hours.first.0 hours.count mw book.old }
 {
     let profiles = profile_count(book);
-    for k in 0..hours.count {
+    for (k, asked) in mw[..hours.count as usize].iter().enumerate() {
         let at = DirectionHour {
             direction: hours.direction,
-            hour: Hour(hours.first.0 + k),
+            hour: Hour(hours.first.0 + k as u8),
         };
-        at.grant(book, profiles, mw[k as usize]);
+        at.grant(book, profiles, *asked);
     }
 }
 
-// The five MW of a right with those of a bid, from cell `at` on. By position, which reads the bid and places the cell.
+// The five MW of a right with those of a bid, from cell `at` on.
+// The position places the cell: a `zip` of the cells and the MW was tried, and its proof didn't close.
 pub fn add_five(book: &mut Book, at: usize, mw: [u16; 5])
     requires { at + 5 ≤ CELLS }
     ensures { book.new ≡ added_five at mw book.old }
 {
-    for k in 0..5 {
-        add(book, at + k, mw[k]);
+    for (k, more) in mw.iter().enumerate() {
+        add(book, at + k, *more);
     }
 }

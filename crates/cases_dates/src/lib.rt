@@ -5,13 +5,20 @@
 use cases_printing::Tally;
 use std::{fmt, io};
 
-// A year, a month and a day. There need be no such date. A type of its own, since `Display` can't be given to one of another crate.
+// There need be no such date.
 #[derive(Clone, Copy)]
-struct Date(u16, u8, u8);
+struct Date(calendar::Date);
+
+impl Date {
+    fn new(year: u16, month: u8, day: u8) -> Self {
+        Date(calendar::Date { year, month, day })
+    }
+}
 
 impl fmt::Display for Date {
     fn fmt<W: fmt::Write>(&self, f: &mut fmt::Formatter<W>) -> fmt::Result {
-        write!(f, "{}-{:02}-{:02}", self.0, self.1, self.2)
+        let date = self.0;
+        write!(f, "{}-{:02}-{:02}", date.year, date.month, date.day)
     }
 }
 
@@ -22,6 +29,7 @@ struct Day {
     hours: u8,
 }
 
+// Of the number 0, which `day_of` has for a weekday that the calendar lacks. It is no expected one, so the case shows and counts as not as expected.
 const NO_WEEKDAY: &str = "no weekday";
 
 const WEEKDAYS: [&str; 8] = [
@@ -44,16 +52,12 @@ impl fmt::Display for Day {
 
 // ---- what the calendar says
 
-// None where there is no such date, and the calendar has neither a weekday nor hours for it.
+// None where there is no such date, and the calendar has neither a weekday nor hours for it. If it has only one of them, the other is 0, which is never
+// expected.
 fn day_of(date: Date) -> Option<Day> {
-    let date = calendar::Date {
-        year: date.0,
-        month: date.1,
-        day: date.2,
-    };
-    let weekday = date.weekday();
-    let hours = date.hours();
-    if !date.is_there() && weekday.is_none() && hours.is_none() {
+    let weekday = date.0.weekday();
+    let hours = date.0.hours();
+    if !date.0.is_there() && weekday.is_none() && hours.is_none() {
         return None;
     }
     Some(Day {
@@ -166,7 +170,7 @@ fn day_case(
 ) -> io::Result<()> {
     let weekday = weekday_on(year, month, day);
     let hours = hours_on(month, day, weekday);
-    let date = Date(year.number, month.0, day);
+    let date = Date::new(year.number, month.0, day);
     date_case(rt, tally, date, Some(Day { weekday, hours }))
 }
 
@@ -175,7 +179,7 @@ fn month_cases(rt: &impl Print, tally: &mut Tally, year: Year, month: Month) -> 
     let last = last_day(year, month);
     day_case(rt, tally, year, month, 1)?;
     day_case(rt, tally, year, month, last)?;
-    let after = Date(year.number, month.0, last.wrapping_add(1));
+    let after = Date::new(year.number, month.0, last.wrapping_add(1));
     date_case(rt, tally, after, None)
 }
 
@@ -220,15 +224,17 @@ const CHANGES: [Changes; 15] = [
 
 // In a month of 31 days.
 fn day_after(date: Date) -> Date {
-    if date.2 == 31 {
-        return Date(date.0, date.1.wrapping_add(1), 1);
+    let calendar::Date { year, month, day } = date.0;
+    if day == 31 {
+        return Date::new(year, month.wrapping_add(1), 1);
     }
-    Date(date.0, date.1, date.2.wrapping_add(1))
+    Date::new(year, month, day.wrapping_add(1))
 }
 
 // The Saturday before, the Sunday and the Monday after.
 fn change_cases(rt: &impl Print, tally: &mut Tally, sunday: Date, hours: u8) -> io::Result<()> {
-    let saturday = Date(sunday.0, sunday.1, sunday.2.wrapping_sub(1));
+    let calendar::Date { year, month, day } = sunday.0;
+    let saturday = Date::new(year, month, day.wrapping_sub(1));
     let monday = day_after(sunday);
     let weekday_of_24 = |weekday| Some(Day { weekday, hours: 24 });
     date_case(rt, tally, saturday, weekday_of_24(6))?;
@@ -238,83 +244,84 @@ fn change_cases(rt: &impl Print, tally: &mut Tally, sunday: Date, hours: u8) -> 
 
 fn clock_cases(rt: &impl Print, tally: &mut Tally) -> io::Result<()> {
     for Changes(year, march, october) in CHANGES {
-        change_cases(rt, tally, Date(year, 3, march), 23)?;
-        change_cases(rt, tally, Date(year, 10, october), 25)?;
+        change_cases(rt, tally, Date::new(year, 3, march), 23)?;
+        change_cases(rt, tally, Date::new(year, 10, october), 25)?;
     }
     Ok(())
 }
 
 // ---- dates that are not there
 
-// Years outside the cycle, then months, then days.
-const ABSENT: [Date; 19] = [
-    Date(0, 1, 1),
-    Date(1999, 1, 1),
-    Date(1999, 12, 31),
-    Date(2400, 1, 1),
-    Date(2400, 2, 29),
-    Date(2400, 12, 31),
-    Date(65535, 12, 31),
-    Date(2015, 0, 1),
-    Date(2015, 13, 1),
-    Date(2015, 255, 1),
-    Date(2000, 1, 0),
-    Date(2000, 2, 30),
-    Date(2015, 6, 0),
-    Date(2015, 6, 32),
-    Date(2015, 6, 255),
-    Date(2200, 2, 29),
-    Date(2300, 2, 29),
-    Date(2399, 12, 32),
-    Date(0, 0, 0),
+// A year, a month and a day: years outside the cycle, then months, then days.
+const ABSENT: [(u16, u8, u8); 19] = [
+    (0, 1, 1),
+    (1999, 1, 1),
+    (1999, 12, 31),
+    (2400, 1, 1),
+    (2400, 2, 29),
+    (2400, 12, 31),
+    (65535, 12, 31),
+    (2015, 0, 1),
+    (2015, 13, 1),
+    (2015, 255, 1),
+    (2000, 1, 0),
+    (2000, 2, 30),
+    (2015, 6, 0),
+    (2015, 6, 32),
+    (2015, 6, 255),
+    (2200, 2, 29),
+    (2300, 2, 29),
+    (2399, 12, 32),
+    (0, 0, 0),
 ];
 
 fn absent_cases(rt: &impl Print, tally: &mut Tally) -> io::Result<()> {
-    for date in ABSENT {
-        date_case(rt, tally, date, None)?;
+    for (year, month, day) in ABSENT {
+        date_case(rt, tally, Date::new(year, month, day), None)?;
     }
     Ok(())
 }
 
 // ---- dates that can be looked up
 
-// A date with its weekday and its hours.
+// A year, a month and a day, with the date's weekday and its hours.
 #[derive(Clone, Copy)]
-struct Known(Date, u8, u8);
+struct Known((u16, u8, u8), u8, u8);
 
 // The ends of the cycle, leap days and hundreds of years, the days after the years above, Sundays a week before or after a change, and
 // the dates that document 02 names.
 const KNOWN: [Known; 26] = [
-    Known(Date(2000, 1, 1), 6, 24),
-    Known(Date(2000, 2, 28), 1, 24),
-    Known(Date(2000, 2, 29), 2, 24),
-    Known(Date(2000, 3, 1), 3, 24),
-    Known(Date(2000, 3, 26), 7, 23),
-    Known(Date(2000, 10, 29), 7, 25),
-    Known(Date(2000, 12, 31), 7, 24),
-    Known(Date(2004, 2, 29), 7, 24),
-    Known(Date(2004, 5, 1), 6, 24),
-    Known(Date(2013, 3, 24), 7, 24),
-    Known(Date(2015, 3, 29), 7, 23),
-    Known(Date(2015, 4, 5), 7, 24),
-    Known(Date(2015, 6, 1), 1, 24),
-    Known(Date(2015, 6, 4), 4, 24),
-    Known(Date(2015, 11, 1), 7, 24),
-    Known(Date(2017, 1, 1), 7, 24),
-    Known(Date(2021, 10, 24), 7, 24),
-    Known(Date(2038, 1, 19), 2, 24),
-    Known(Date(2101, 1, 1), 6, 24),
-    Known(Date(2200, 3, 1), 6, 24),
-    Known(Date(2300, 3, 1), 4, 24),
-    Known(Date(2399, 1, 1), 5, 24),
-    Known(Date(2399, 2, 28), 7, 24),
-    Known(Date(2399, 3, 28), 7, 23),
-    Known(Date(2399, 10, 31), 7, 25),
-    Known(Date(2399, 12, 31), 5, 24),
+    Known((2000, 1, 1), 6, 24),
+    Known((2000, 2, 28), 1, 24),
+    Known((2000, 2, 29), 2, 24),
+    Known((2000, 3, 1), 3, 24),
+    Known((2000, 3, 26), 7, 23),
+    Known((2000, 10, 29), 7, 25),
+    Known((2000, 12, 31), 7, 24),
+    Known((2004, 2, 29), 7, 24),
+    Known((2004, 5, 1), 6, 24),
+    Known((2013, 3, 24), 7, 24),
+    Known((2015, 3, 29), 7, 23),
+    Known((2015, 4, 5), 7, 24),
+    Known((2015, 6, 1), 1, 24),
+    Known((2015, 6, 4), 4, 24),
+    Known((2015, 11, 1), 7, 24),
+    Known((2017, 1, 1), 7, 24),
+    Known((2021, 10, 24), 7, 24),
+    Known((2038, 1, 19), 2, 24),
+    Known((2101, 1, 1), 6, 24),
+    Known((2200, 3, 1), 6, 24),
+    Known((2300, 3, 1), 4, 24),
+    Known((2399, 1, 1), 5, 24),
+    Known((2399, 2, 28), 7, 24),
+    Known((2399, 3, 28), 7, 23),
+    Known((2399, 10, 31), 7, 25),
+    Known((2399, 12, 31), 5, 24),
 ];
 
 fn known_cases(rt: &impl Print, tally: &mut Tally) -> io::Result<()> {
-    for Known(date, weekday, hours) in KNOWN {
+    for Known((year, month, day), weekday, hours) in KNOWN {
+        let date = Date::new(year, month, day);
         date_case(rt, tally, date, Some(Day { weekday, hours }))?;
     }
     Ok(())

@@ -1,9 +1,10 @@
 // Full tables: as many entries as there is room for are granted, the next is refused, and what needs no new entry is still granted.
 #![tactic(auto)]
 
+use answers::RightRead;
 use cases_printing::{Reply, Tally};
 use cells::Book;
-use rules::{Answer, Hour, Session};
+use rules::{Answer, Hour, ReplyNumbers, Session};
 use std::{fmt, io};
 
 // ---- calls
@@ -75,7 +76,7 @@ fn answer_to(book: &mut Book, call: Call) -> Answer {
 }
 
 fn reply_to(book: &mut Book, call: Call) -> Reply {
-    Reply::from(daybook::numbers(answer_to(book, call)))
+    Reply(daybook::numbers(answer_to(book, call)))
 }
 
 // Calls that each need a new entry.
@@ -117,7 +118,7 @@ fn call_at(series: Series, place: u16) -> Call {
 fn count_granted(book: &mut Book, series: Series, times: u16) -> u32 {
     let mut count: u32 = 0;
     for place in 0..times {
-        if reply_to(book, call_at(series, place)).number == 0 {
+        if reply_to(book, call_at(series, place)).0.number == 0 {
             count = count.saturating_add(1);
         }
     }
@@ -126,19 +127,19 @@ fn count_granted(book: &mut Book, series: Series, times: u16) -> u32 {
 
 // ---- rights
 
-// A right as it is read. A type of its own, since `Display` can't be given to one of another crate.
+// A right as it is read.
 #[derive(Clone, Copy, PartialEq)]
-struct Right {
-    holder: u8,
-    direction: u8,
-    session: u8,
-    mw: [u32; 5],
-}
+struct Right(RightRead);
 
 impl fmt::Display for Right {
     fn fmt<W: fmt::Write>(&self, f: &mut fmt::Formatter<W>) -> fmt::Result {
-        write!(f, "{} {} {}", self.holder, self.direction, self.session)?;
-        for mw in self.mw {
+        let right = self.0;
+        write!(
+            f,
+            "{} {} {}",
+            right.holder, right.direction, right.session.0
+        )?;
+        for mw in right.mw {
             write!(f, " {mw}")?;
         }
         Ok(())
@@ -149,16 +150,8 @@ const LAST_RIGHT: u16 = 511;
 
 fn last_right(book: &Book) -> Result<Right, Reply> {
     match daybook::right_at(book, LAST_RIGHT) {
-        Ok(read) => {
-            let mw = read.mw;
-            Ok(Right {
-                holder: read.holder,
-                direction: read.direction,
-                session: read.session.0,
-                mw,
-            })
-        }
-        Err(refusal) => Err(Reply::from(daybook::numbers(Err(refusal)))),
+        Ok(read) => Ok(Right(read)),
+        Err(refusal) => Err(Reply(daybook::numbers(Err(refusal)))),
     }
 }
 
@@ -176,32 +169,28 @@ enum Case {
     LastRight(Right),
 }
 
-// Granted with the detail 0.
-const GRANTED: Reply = Reply {
+const ZEROS: ReplyNumbers = ReplyNumbers {
     number: 0,
     first: 0,
     second: 0,
 };
 
-const GRANTED_1: Reply = Reply {
-    first: 1,
-    ..GRANTED
-};
+// Granted with the detail 0.
+const GRANTED: Reply = Reply(ZEROS);
 
-const GRANTED_9999: Reply = Reply {
+const GRANTED_1: Reply = Reply(ReplyNumbers { first: 1, ..ZEROS });
+
+const GRANTED_9999: Reply = Reply(ReplyNumbers {
     first: 9999,
-    ..GRANTED
-};
+    ..ZEROS
+});
 
-const TAKEN: Reply = Reply {
-    number: 7,
-    ..GRANTED
-};
+const TAKEN: Reply = Reply(ReplyNumbers { number: 7, ..ZEROS });
 
-const FULL: Reply = Reply {
+const FULL: Reply = Reply(ReplyNumbers {
     number: 13,
-    ..GRANTED
-};
+    ..ZEROS
+});
 
 static CASES: [Case; 24] = [
     Case::Once(Call::OpenDay, GRANTED),
@@ -314,12 +303,12 @@ static CASES: [Case; 24] = [
         },
         GRANTED,
     ),
-    Case::LastRight(Right {
+    Case::LastRight(Right(RightRead {
         holder: 0,
         direction: 0,
-        session: 1,
+        session: Session(1),
         mw: [1, 0, 0, 0, 0],
-    }),
+    })),
     Case::Many {
         tried: "nominations of 600 new pairs",
         series: Series::Pairs,

@@ -45,27 +45,14 @@ impl fmt::Display for Tally {
     }
 }
 
-// The numbers of an answer: its own and both details. A type of its own, since `Display` can't be given to one of another crate.
-#[derive(Clone, Copy, PartialEq)]
-pub struct Reply {
-    pub number: u8,
-    pub first: u32,
-    pub second: u32,
-}
-
-impl From<ReplyNumbers> for Reply {
-    fn from(numbers: ReplyNumbers) -> Reply {
-        Reply {
-            number: numbers.number,
-            first: numbers.first,
-            second: numbers.second,
-        }
-    }
-}
+// The numbers of an answer: its own and both details.
+#[derive(Clone, Copy, PartialEq, Eq)]
+pub struct Reply(pub ReplyNumbers);
 
 impl fmt::Display for Reply {
     fn fmt<W: fmt::Write>(&self, f: &mut fmt::Formatter<W>) -> fmt::Result {
-        write!(f, "{} {} {}", self.number, self.first, self.second)
+        let reply = self.0;
+        write!(f, "{} {} {}", reply.number, reply.first, reply.second)
     }
 }
 

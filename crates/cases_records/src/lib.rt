@@ -9,7 +9,7 @@ use cases_printing::{Hexadecimal, Reply, Tally};
 use damaged::{BITS, Damaged, FOREIGN, KINDS, LACKING, ZEROS};
 use record::RecordRead;
 use records::{NO_CALL, RECORDS, Record};
-use rules::{CallRecord, Hour, Session};
+use rules::{CallRecord, Hour, ReplyNumbers, Session};
 use std::{fmt, io};
 
 // What a buffer holds where nothing was written.
@@ -43,14 +43,14 @@ impl fmt::Display for Fields {
 
 // ---- reading
 
-const REFUSED: Reply = Reply {
+const REFUSED: Reply = Reply(ReplyNumbers {
     number: 1,
     first: 0,
     second: 0,
-};
+});
 
 fn read_bytes(bytes: &[u8]) -> Result<RecordRead, Reply> {
-    record::read(bytes).map_err(|refusal| Reply::from(answers::numbers(Err(refusal))))
+    record::read(bytes).map_err(|refusal| Reply(answers::numbers(Err(refusal))))
 }
 
 fn print_reading(rt: &impl Print, reading: Result<RecordRead, Reply>) -> io::Result<()> {
@@ -131,7 +131,7 @@ fn write_case(
     let size = size.min(24);
     let mut buffer = buffer_with(b"");
     let room = &mut buffer[..size];
-    let reply = Reply::from(answers::numbers(record::write(call, room)));
+    let reply = Reply(answers::numbers(record::write(call, room)));
     let found = Written {
         reply,
         buffer: room,
@@ -149,11 +149,11 @@ fn write_case(
 }
 
 fn granted(record: &[u8]) -> Reply {
-    Reply {
+    Reply(ReplyNumbers {
         number: 0,
         first: u32::try_from(record.len()).unwrap_or(u32::MAX),
         second: 0,
-    }
+    })
 }
 
 // With room after the record, with just enough, and with a byte too few.
@@ -188,7 +188,7 @@ fn kinds_cases(rt: &impl Print, tally: &mut Tally) -> io::Result<()> {
 
 // ---- what the writer refuses
 
-// The fields of each kind, by bit.
+// The fields of each kind, by bit. The kind is the record's own number, which may be any byte (see `CallRecord`).
 fn own_fields(kind: u8) -> u32 {
     match kind {
         1 => 0b100_0010_0001_0011,

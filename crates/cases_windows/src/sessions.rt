@@ -4,16 +4,23 @@ use cases_printing::Tally;
 use rules::Hour;
 use std::{fmt, io};
 
-// How many hours a session has, and the first of them. No `Option`: the line says 0 hours from 0 where it is not there.
+// How many hours a session has, and the first of them.
 #[derive(Clone, Copy, PartialEq)]
-struct Hours {
+struct Span {
     count: u16,
     first: u16,
 }
 
+// None where the session is not there.
+#[derive(Clone, Copy, PartialEq)]
+struct Hours(Option<Span>);
+
 impl fmt::Display for Hours {
     fn fmt<W: fmt::Write>(&self, f: &mut fmt::Formatter<W>) -> fmt::Result {
-        write!(f, "{} hours from {}", self.count, self.first)
+        match self.0 {
+            Some(span) => write!(f, "{} hours from {}", span.count, span.first),
+            None => f.write_str("0 hours from 0"),
+        }
     }
 }
 
@@ -27,14 +34,12 @@ fn session_of(place: Place, hour: u8) -> u8 {
 
 fn hours_of(place: Place) -> Hours {
     let session = place.session_on(0);
-    Hours {
-        count: if session.is_there() {
-            session.hours() as u16
-        } else {
-            0
-        },
-        first: session.first_hour().map_or(0, |hour| hour.0 as u16),
-    }
+    Hours(
+        session.first_hour().map(|first| Span {
+            count: session.hours() as u16,
+            first: first.0 as u16,
+        }),
+    )
 }
 
 // ---- cases
@@ -59,7 +64,7 @@ fn hour_cases(rt: &impl Print, tally: &mut Tally, place: Place) -> io::Result<()
     let first = place.first();
     let last = place.last();
     let count = last.saturating_add(1).saturating_sub(first);
-    session_case(rt, tally, place, Hours { count, first })?;
+    session_case(rt, tally, place, Hours(Some(Span { count, first })))?;
     for hour in first..=last {
         hour_case(rt, tally, place, hour)?;
     }
@@ -81,7 +86,6 @@ fn model_cases(rt: &impl Print, tally: &mut Tally, hours: u8, model: Model) -> i
         )?;
     }
     for session in [0, sessions.saturating_add(1)] {
-        let none = Hours { count: 0, first: 0 };
         session_case(
             rt,
             tally,
@@ -90,7 +94,7 @@ fn model_cases(rt: &impl Print, tally: &mut Tally, hours: u8, model: Model) -> i
                 model,
                 session,
             },
-            none,
+            Hours(None),
         )?;
     }
     Ok(())

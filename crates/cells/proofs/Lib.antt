@@ -2,4 +2,4 @@ pub mod Rows
 pub mod Turns
 pub mod Regions
 pub mod Views
-pub mod Finds
+pub mod Entries

@@ -136,23 +136,12 @@ pub party_count : (b : List ℕ) → length (book_of b).parties ≡ counted b PA
 unfolding book_of parties_in
 party_count b = rows-length (party_at b) (counted b PARTIES party_limit) 0
 
-pub access_at : (b : List ℕ) (p : ℕ) → p < counted b PARTIES party_limit → (party (book_of b).parties p).access ≡ cell b (PARTIES + 17 + p * 17)
-unfolding book_of parties_in
-access_at b p l =
-    ap (λ (x : Party). x.access) (rows_at (party_at b) (counted b PARTIES party_limit) 0 p (record { code = []; access = 0 }) l ∙ ap (party_at b) (zero-add p)) ∙ unfold party_at in refl
-
 pub direction_at_lem : (b : List ℕ) (d : ℕ) → d < counted b DIRECTIONS direction_limit → direction (book_of b).directions d ≡ direction_at b d
 unfolding book_of directions_in
 direction_at_lem b d l = rows_at (direction_at b) (counted b DIRECTIONS direction_limit) 0 d (record { out = 0; into = 0; model = 0 }) l ∙ ap (direction_at b) (zero-add d)
 
 pub model_at : (b : List ℕ) (d : ℕ) → d < counted b DIRECTIONS direction_limit → model_of (book_of b) d ≡ (direction_at b d).model
 model_at b d l = ap (λ (x : Direction). x.model) (direction_at_lem b d l)
-
--- the session of a direction that is there
-pub session_unknown_lem : (b : List ℕ) (d s n m : ℕ) → n ≡ day_hours_in b → m ≡ (direction_at b d).model → d < counted b DIRECTIONS direction_limit
-    → not (session_there n m s) ≡ session_unknown (book_of b) d s
-unfolding book_of
-session_unknown_lem b d s n m p q l = rw (p, q, model_at b d l)
 
 pub right_count : (b : List ℕ) → length (book_of b).rights ≡ counted b RIGHTS right_limit
 unfolding book_of rights_in

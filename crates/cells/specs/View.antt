@@ -1,7 +1,7 @@
 -- The book of the rules, read off any cells: a count past its table is read as a full one, hours other than 23 and 25 as 24, and numbers that are no date
 -- as none.
 -- Assumes nothing.
-use Rattle.std.specs.Prelude.{ℕ, ◌+◌, ◌*◌, ◌%◌, ◌^◌, ◌≤◌, ◌<◌, min, ◌≡◌, Bool, cond, not, List, eqb, get_or, length}
+use Rattle.std.specs.Prelude.{ℕ, ◌+◌, ◌*◌, ◌%◌, ◌^◌, ◌≤◌, ◌<◌, min, ◌≡◌, Bool, if◌then◌else◌, not, List, ◌==◌, get_or, length}
 use Rattle.rules.specs.Calendar.{is_date}
 use Rattle.rules.specs.Book.{BookDate, NoDate, On, Day, Direction, Party, Right, Pair, Book, place, direction_limit, pair_limit, party_limit, profile_limit, right_limit}
 use Rattle.cells.specs.Loops.{rows}
@@ -22,6 +22,14 @@ part b at n = rows (cell_from b at) n 0
 -- the count of a table with a limit
 abbrev pub counted : List ℕ → ℕ → ℕ → ℕ
 counted b at limit = min (cell b at) limit
+
+-- row i of a table, as its cells
+abbrev pub row_at : List ℕ → ℕ → ℕ → ℕ → List ℕ
+row_at b at width i = part b (at + 1 + i * width) width
+
+-- the rows of a table, each as its cells
+unfoldable pub rows_in : List ℕ → ℕ → ℕ → ℕ → List (List ℕ)
+rows_in b at width limit = rows (row_at b at width) (counted b at limit) 0
 
 -- a row of the offers and of the granted MW, and an hour that some day has
 pub record InHour (row hour : ℕ) : Type 0 where
@@ -48,14 +56,14 @@ pub record Cells (b : List ℕ) : Type 0 where
 
 -- a year, month and day that are no date are read as none
 abbrev pub date_read : ℕ → ℕ → ℕ → BookDate
-date_read y m d = cond (is_date y m d) (On y m d) NoDate
+date_read y m d = if is_date y m d then On y m d else NoDate
 
 unfoldable pub date_in : List ℕ → BookDate
 date_in b = date_read (cell b YEAR) (cell b MONTH) (cell b DAY)
 
 -- any count of hours but 23 and 25 is read as 24
 abbrev pub hours_read : ℕ → ℕ
-hours_read n = cond (eqb n 23) 23 (cond (eqb n 25) 25 24)
+hours_read n = if n == 23 then 23 else if n == 25 then 25 else 24
 
 unfoldable pub day_hours_in : List ℕ → ℕ
 day_hours_in b = hours_read (cell b HOURS)
@@ -68,10 +76,14 @@ day_in b = record { date = date_in b; hours = day_hours_in b; weekday = weekday_
 
 -- a timed call was granted: any number but 0
 abbrev pub started_in : List ℕ → Bool
-started_in b = not (eqb (cell b STARTED) 0)
+started_in b = not (cell b STARTED == 0)
 
 abbrev pub clock_in : List ℕ → ℕ
 clock_in b = cell b CLOCK
+
+-- a direction by the cells of its row
+abbrev pub direction_read : List ℕ → Direction
+direction_read row = record { out = get_or row 0 0; into = get_or row 1 0; model = get_or row 2 0 }
 
 -- row i of the directions, and the table
 abbrev pub direction_at : List ℕ → ℕ → Direction
@@ -84,6 +96,10 @@ directions_in b = rows (direction_at b) (counted b DIRECTIONS direction_limit) 0
 -- the maps of the profiles
 unfoldable pub profiles_in : List ℕ → List ℕ
 profiles_in b = part b (PROFILES + 1) (counted b PROFILES profile_limit)
+
+-- a party by the cells of its row
+abbrev pub party_read : List ℕ → Party
+party_read row = record { code = part row 0 16; access = get_or row 16 0 }
 
 -- row i of the parties, and the table
 unfoldable pub party_at : List ℕ → ℕ → Party
@@ -102,6 +118,10 @@ granted_in b = part b GRANTED 800
 unfoldable pub matched_in : List ℕ → List ℕ
 matched_in b = part b MATCHED 600
 
+-- a right by the cells of its row; numbers of parties, directions and sessions are bytes
+abbrev pub right_read : List ℕ → Right
+right_read row = record { holder = get_or row 0 0 % 256; direction = get_or row 1 0 % 256; session = get_or row 2 0 % 256; mw = part row 3 5 }
+
 -- row i of the rights, and the table; numbers of parties, directions and sessions are bytes
 unfoldable pub right_at : List ℕ → ℕ → Right
 right_at b i =
@@ -114,6 +134,10 @@ right_at b i =
 
 unfoldable pub rights_in : List ℕ → List Right
 rights_in b = rows (right_at b) (counted b RIGHTS right_limit) 0
+
+-- a pair by the cells of its row
+abbrev pub pair_read : List ℕ → Pair
+pair_read row = record { right = get_or row 0 0; out = get_or row 1 0; into = get_or row 2 0; out_mw = part row 3 5; into_mw = part row 8 5 }
 
 -- row i of the pairs, and the table
 unfoldable pub pair_at : List ℕ → ℕ → Pair

@@ -1,10 +1,10 @@
 // The cells of a day book: one lent array with a table at each fixed place, the day's own cells, and the count of a table. Nothing is assumed of what the cells hold.
 #![tactic(auto)]
 
-ghost use Rattle.std.specs.Prelude.{◌≡◌, ◌+◌, ◌*◌, ◌<◌, ◌≤◌, leb};
+ghost use Rattle.std.specs.Prelude.{◌≡◌, ◌+◌, ◌*◌, ◌<◌, ◌≤◌, nat_le};
 ghost use Rattle.rules.specs.Book.{flag};
 ghost use Rattle.cells.specs.Layout.{CELLS};
-ghost use Rattle.cells.specs.View.{InHour, Places, InRange, Cells, counted, day_hours_in, started_in, weekday_in, clock_in};
+ghost use Rattle.cells.specs.View.{InHour, Places, InRange, Cells, counted, rows_in, day_hours_in, started_in, weekday_in, clock_in};
 
 use day::Day;
 use rules::{Hour, Session};
@@ -44,45 +44,31 @@ pub type Book = [u32; CELLS];
 
 // A table: the cell of its count, and behind it the rows, of so many cells each.
 #[derive(Clone, Copy)]
-pub struct Table {
+pub struct Table<const WIDTH: usize> {
     pub at: usize,
-    pub width: usize,
     pub limit: u32,
-    ghost inside: { at + 1 + limit * width ≤ CELLS },
+    ghost wide: { 0 < WIDTH },
+    ghost inside: { at + 1 + limit * WIDTH ≤ CELLS },
 }
 
 // Rows of an out operator, an in operator and a model.
-pub const DIRECTIONS: Table = Table {
-    at: 7,
-    width: 3,
-    limit: 24,
-};
+pub const DIRECTIONS: Table<3> = Table { at: 7, limit: 24 };
 
 // Rows of a map of directions.
-pub const PROFILES: Table = Table {
-    at: 80,
-    width: 1,
-    limit: 8,
-};
+pub const PROFILES: Table<1> = Table { at: 80, limit: 8 };
 
 // Rows of the 16 bytes of a code, and an access map.
-pub const PARTIES: Table = Table {
-    at: 89,
-    width: 17,
-    limit: 64,
-};
+pub const PARTIES: Table<17> = Table { at: 89, limit: 64 };
 
 // Rows of a holder, a direction, a session and five MW.
-pub const RIGHTS: Table = Table {
+pub const RIGHTS: Table<8> = Table {
     at: 3378,
-    width: 8,
     limit: 512,
 };
 
 // Rows of a right, an out party, an in party, five MW of the out side and five of the in side.
-pub const PAIRS: Table = Table {
+pub const PAIRS: Table<13> = Table {
     at: 7475,
-    width: 13,
     limit: 512,
 };
 
@@ -165,28 +151,38 @@ pub fn is_started(book: &Book) -> bool
     book[STARTED] != 0
 }
 
-impl Table {
+impl<const WIDTH: usize> Table<WIDTH> {
     // How many rows it has: a count past its limit is read as that of a full table.
-    pub fn count(self, book: &Book) -> u32
-        ensures { result ≡ counted book.now self.at self.limit }
+    pub fn count(&self, book: &Book) -> u32
+        ensures { result ≡ counted book.now self.now.at self.now.limit }
     {
         book[self.at].min(self.limit)
     }
 
     // It has no room for a row more.
-    pub fn is_full(self, book: &Book) -> bool
-        ensures { result ≡ leb self.limit (counted book.now self.at self.limit) }
+    pub fn is_full(&self, book: &Book) -> bool
+        ensures { result ≡ nat_le self.now.limit (counted book.now self.now.at self.now.limit) }
     {
         self.limit <= self.count(book)
     }
 
-    // The first cell of row number i.
-    pub fn row(self, i: u32) -> usize
-        requires { i < self.limit }
-        ensures begins { result ≡ self.at + 1 + i * self.width }
-        ensures inside { result + self.width ≤ CELLS }
+    // Its rows, each as its cells.
+    pub fn rows<'a>(&self, book: &'a Book) -> &'a [[u32; WIDTH]]
+        ensures { result.now ≡ rows_in book.now self.now.at WIDTH self.now.limit }
     {
-        self.at + 1 + i as usize * self.width
+        let first = self.at + 1;
+        let end = first + self.count(book) as usize * WIDTH;
+        let (rows, _) = book[first..end].as_chunks();
+        rows
+    }
+
+    // The first cell of row number i.
+    pub fn row(&self, i: u32) -> usize
+        requires { i < self.now.limit }
+        ensures begins { result ≡ self.now.at + 1 + i * WIDTH }
+        ensures inside { result + WIDTH ≤ CELLS }
+    {
+        self.at + 1 + i as usize * WIDTH
     }
 }
 

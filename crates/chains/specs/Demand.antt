@@ -1,7 +1,7 @@
 -- Demand 3 for the program, as one claim about a chain of calls on the cells that an opening left.
 -- Left of each equation stands what a read that is asked after the chain answers, right of it what the day, the calls and their answers give, never the book.
 -- Assumes nothing.
-use Rattle.std.specs.Prelude.{ℕ, ◌+◌, ◌≤◌, ◌<◌, ◌≡◌, cond, List, [], ◌∷◌, ◌++◌, map, eqb, length, get_or, Result}
+use Rattle.std.specs.Prelude.{ℕ, ◌+◌, ◌≤◌, ◌<◌, ◌≡◌, if◌then◌else◌, List, [], ◌∷◌, ◌++◌, map, ◌==◌, length, get_or, Result}
 use Rattle.rules.specs.Basics.{no_mw}
 use Rattle.rules.specs.Book.{Day, Direction, Right, of_profile, right}
 use Rattle.rules.specs.Calls.{Call, Bid}
@@ -20,7 +20,7 @@ use Rattle.chains.specs.Chains.{Chain}
 -- what these reads answer in hour k of the session, for all the pairs under right r together
 unfoldable pub confirmed_sum : (Key → Result (List ℕ) Refusal) → ℕ → ℕ → List Key → ℕ
 confirmed_sum reads k r [] = 0
-confirmed_sum reads k r (x ∷ xs) = cond (eqb x.right r) (get_or (said_confirmed (reads x)).mw k 0) 0 + confirmed_sum reads k r xs
+confirmed_sum reads k r (x ∷ xs) = (if x.right == r then get_or (said_confirmed (reads x)).mw k 0 else 0) + confirmed_sum reads k r xs
 
 -- over the opening's day, the cells that it left, the calls with their answers, and the cells that the last call left
 module _ (day : Day) (first : List ℕ) (cs : List Call) (rs : List Answer) (last : List ℕ) where

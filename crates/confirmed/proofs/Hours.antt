@@ -1,20 +1,9 @@
--- The confirmed MW of a pair, hour by hour.
+-- The confirmed MW of one lower side.
 -- Assumes nothing.
-use Prim.Native.Nat.{ℕ, ◌+◌, ◌*◌, ◌/◌, ◌^◌, ◌≤◌, ◌<◌}
-use mathlib.Core.Path.{◌≡◌}
-use mathlib.Core.List.{List}
-use native.Mathlib.Omega.{arith}
-use native.Mathlib.Nat.{mul_comm, mul-le-mul, mul-le-mul_left, div-le_of_le-mul}
-use lib.ListN.{get_or}
+use Rattle.std.proofs.Common.{◌≡◌, ℕ, ◌*◌, ◌/◌, ◌^◌, ◌≤◌, ◌<◌, arith}
+use Rattle.std.proofs.Math.Nat.{mul_comm, mul-le-mul, mul-le-mul_left, div-le_of_le-mul}
 use borrow.Author.Tests.{lt-ltb, le-ltb}
 use Rattle.rules.specs.Nominations.{confirmed_of}
-use Rattle.cells.specs.Layout.{RIGHTS}
-use Rattle.cells.specs.View.{cell, right_at}
-use Rattle.cells.proofs.Views.{part_at}
-use Rattle.totals.specs.Gathered.{lower_in}
-use Rattle.confirmed.specs.Work.{hour_of}
-
--- ---- one value
 
 -- a product of two numbers of 32 bits
 pub product_fits : (m R : ℕ) → m < 2 ^ 32 → R < 2 ^ 32 → m * R < 2 ^ 64
@@ -36,14 +25,3 @@ cut R T m h = rw (lt-ltb R T h)
 pub uncut : (R T m : ℕ) → T ≤ R → m ≡ confirmed_of R T m
 unfolding confirmed_of
 uncut R T m h = rw (le-ltb R T h)
-
--- ---- one hour
-
--- a right's MW in one hour stand in one cell
-right_mw : (b : List ℕ) (r k : ℕ) → k < 5 → get_or (right_at b r).mw k 0 ≡ cell b (RIGHTS + 4 + r * 8 + k)
-unfolding right_at
-right_mw b r k l = part_at b (RIGHTS + 4 + r * 8) 5 k l
-
-pub hour_is : (b : List ℕ) (r i k total m v : ℕ) → k < 5 → v ≡ confirmed_of (cell b (RIGHTS + 4 + r * 8 + k)) total m → m ≡ lower_in b i k → v ≡ hour_of b r i total k
-unfolding hour_of
-hour_is b r i k total m v h e s = rw (right_mw b r k h, ← s) e

@@ -1,16 +1,16 @@
 // The read of the confirmed MW of a pair.
 #![tactic(auto)]
 
-ghost use Rattle.std.specs.Prelude.{◌≡◌, ◌<◌};
+ghost use Rattle.std.specs.Prelude.{◌≡◌};
 ghost use Rattle.rules.specs.Basics.{five};
-ghost use Rattle.rules.specs.Book.{pair_limit, right_limit};
 ghost use Rattle.rules.specs.Nominations.{confirmed_of};
 ghost use Rattle.answers.specs.Promises.{ReadsConfirmed};
-ghost use Rattle.confirmed.specs.Work.{hour_of, hour_in};
+ghost use Rattle.confirmed.specs.Work.{confirmed_in};
 
 use cells::Book;
 use pairs::PairKey;
 use rules::Refusal;
+use totals::PairLower;
 
 // The confirmed MW of the lower side m, where the right has `held` and the sum of the lower sides is `total`.
 fn confirmed(held: u32, total: u64, m: u32) -> u32
@@ -22,28 +22,16 @@ fn confirmed(held: u32, total: u64, m: u32) -> u32
     m
 }
 
-// The confirmed MW of pair number i in the hour at a position of the session, where the sum over its right is `total`.
-fn confirmed_hour(book: &Book, right: u16, i: u32, total: u64, position: usize) -> u32
-    requires { (right < right_limit) × ((i < pair_limit) × (position < 5)) }
-    ensures { result ≡ hour_of book.now right i total position }
+// The confirmed MW of a pair's lower sides in the five hours.
+fn confirmed_five(held: [u32; 5], totals: [u64; 5], lower: [u32; 5]) -> [u32; 5]
+    ensures { result ≡ five (confirmed_in held totals lower) }
 {
-    let lower = totals::lower_at(book, i, position);
-    let held = book[cells::RIGHTS.row(right as u32) + 3 + position];
-    confirmed(held, total, lower)
-}
-
-// The confirmed MW of pair number i, which is of the right, in the five hours.
-fn confirmed_five(book: &Book, right: u16, i: u32) -> [u32; 5]
-    requires { (right < right_limit) × (i < pair_limit) }
-    ensures { result ≡ five (hour_in book.now right i) }
-{
-    let sums = totals::sums_of(book, right as u32);
     [
-        confirmed_hour(book, right, i, sums[0], 0),
-        confirmed_hour(book, right, i, sums[1], 1),
-        confirmed_hour(book, right, i, sums[2], 2),
-        confirmed_hour(book, right, i, sums[3], 3),
-        confirmed_hour(book, right, i, sums[4], 4),
+        confirmed(held[0], totals[0], lower[0]),
+        confirmed(held[1], totals[1], lower[1]),
+        confirmed(held[2], totals[2], lower[2]),
+        confirmed(held[3], totals[3], lower[3]),
+        confirmed(held[4], totals[4], lower[4]),
     ]
 }
 
@@ -51,20 +39,17 @@ fn confirmed_five(book: &Book, right: u16, i: u32) -> [u32; 5]
 pub fn confirmed_of(book: &Book, right: u16, out: u8, into: u8) -> Result<[u32; 5], Refusal>
     ensures { ReadsConfirmed book.now right out into result }
 {
-    if cells::RIGHTS.count(book) <= right as u32 {
-        return Err(Refusal::Unknown);
-    }
+    let held = answers::right_in(book, right).ok_or(Refusal::Unknown)?;
     let key = PairKey {
         right: right as u32,
         out: out as u32,
         into: into as u32,
     };
-    let Some(i) = pairs::standing_pair(book, key) else {
-        return Err(Refusal::Unknown);
-    };
-    let session = tables::right_key(book, right);
-    if !tables::is_matched(book, session.direction, session.session) {
+    let number = pairs::standing_pair(book, key).ok_or(Refusal::Unknown)?;
+    if !tables::is_matched(book, held.direction, held.session) {
         return Err(Refusal::Cycle);
     }
-    Ok(confirmed_five(book, right, i))
+    let row = &cells::PAIRS.rows(book)[number as usize];
+    let totals = totals::sums_of(book, right as u32);
+    Ok(confirmed_five(held.mw, totals, PairLower::of_row(row).lower))
 }

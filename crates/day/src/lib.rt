@@ -1,7 +1,7 @@
 // The day's sessions and hours. No method has a `requires`: each answers for any numbers, as the rules do.
 #![tactic(auto)]
 
-ghost use Rattle.std.specs.Prelude.{◌≡◌, true, ◌↔◌, IfSome, IsSome, cond, ◌+◌, ◌-◌, ◌≤◌, eqb};
+ghost use Rattle.std.specs.Prelude.{◌≡◌, true, ◌↔◌, IfSome, IsSome, if◌then◌else◌, ◌+◌, ◌-◌, ◌≤◌, ◌==◌};
 ghost use Rattle.rules.specs.Sessions.{session_there, first_hour, hours_in, session_of, first_hour_there};
 
 use rules::{Hour, Session};
@@ -59,7 +59,7 @@ impl Day {
 impl DaySession {
     // The number of the day's last session.
     fn last_number(self) -> u8
-        ensures { result ≡ cond (eqb self.model 1) self.day.hours 6 }
+        ensures { result ≡ (if self.model == 1 then self.day.hours else 6) }
     {
         if self.model == 1 { self.day.hours } else { 6 }
     }

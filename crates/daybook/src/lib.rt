@@ -7,7 +7,11 @@ ghost use Rattle.rules.specs.Calls.{AddDirection, AddProfile, AddParty, OfferDir
 ghost use Rattle.answers.specs.Promises.{Opens, Answers, ReadsDirection, ReadsProfile, ReadsRight, ReadsConfirmed};
 
 use answers::{Capacity, LeftRead, RightRead};
+use bids::BidCall;
 use cells::Book;
+use matching::MatchCall;
+use nomination_tests::NominationCall;
+use offers::OfferCall;
 use rules::{Answer, Hour, Refusal, ReplyNumbers, Session};
 use tables::Direction;
 
@@ -48,18 +52,30 @@ pub fn add_party(book: &mut Book, code: [u8; 16], access: u8) -> Answer
 
 // ---- offers
 
-// The MW of a direction in an hour, also fewer than are granted there. Granted: what is left.
+// The MW of a direction in an hour, also fewer than are granted there. Granted: what is left. A call for each kind of capacity: these are the public names.
 pub fn offer_direction(book: &mut Book, time: u32, direction: u8, hour: Hour, mw: u16) -> Answer
     ensures { Answers book.old (OfferDirection time direction hour.0 mw) result book.new }
 {
-    offers::offer(book, time, Capacity::Direction(direction), hour, mw)
+    let call = OfferCall {
+        time,
+        capacity: Capacity::Direction(direction),
+        hour,
+        mw,
+    };
+    offers::offer(book, call)
 }
 
 // The MW of a profile in an hour, also fewer than are granted there. Granted: what is left.
 pub fn offer_profile(book: &mut Book, time: u32, profile: u8, hour: Hour, mw: u16) -> Answer
     ensures { Answers book.old (OfferProfile time profile hour.0 mw) result book.new }
 {
-    offers::offer(book, time, Capacity::Profile(profile), hour, mw)
+    let call = OfferCall {
+        time,
+        capacity: Capacity::Profile(profile),
+        hour,
+        mw,
+    };
+    offers::offer(book, call)
 }
 
 // ---- bids
@@ -75,7 +91,14 @@ pub fn bid(
 ) -> Answer
     ensures { Answers book.old (Bid time party direction session.0 mw) result book.new }
 {
-    bids::bid(book, time, party, direction, session, mw)
+    let call = BidCall {
+        time,
+        party,
+        direction,
+        session,
+        mw,
+    };
+    bids::bid(book, call)
 }
 
 // ---- nominations and matching
@@ -92,19 +115,32 @@ pub fn nominate(
 ) -> Answer
     ensures { Answers book.old (Nominate time sender other right side mw) result book.new }
 {
-    nominations::nominate(book, time, sender, other, right, side, mw)
+    let call = NominationCall {
+        time,
+        sender,
+        other,
+        right,
+        side,
+        mw,
+    };
+    nominations::nominate(book, call)
 }
 
 // A direction's session, once. Granted: the count of its rights.
 pub fn match_session(book: &mut Book, time: u32, direction: u8, session: Session) -> Answer
     ensures { Answers book.old (Match time direction session.0) result book.new }
 {
-    matching::match_session(book, time, direction, session)
+    let call = MatchCall {
+        time,
+        direction,
+        session,
+    };
+    matching::match_session(book, call)
 }
 
 // ---- reads
 
-// What is left of a direction in an hour, and the shortfall.
+// What is left of a direction in an hour, and the shortfall. A call for each kind of capacity: these are the public names.
 pub fn left_of_direction(book: &Book, direction: u8, hour: Hour) -> Result<LeftRead, Refusal>
     ensures { ReadsDirection book.now direction hour.0 result }
 {

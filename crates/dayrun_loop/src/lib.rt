@@ -7,8 +7,16 @@ ghost use Rattle.dayrun_records.specs.Records.{start_book};
 ghost use Rattle.dayrun_loop.specs.Steps.{Wrote, Loops, Answered};
 
 use cells::Book;
-use dayrun_progress::{Next, Progress};
+use dayrun_progress::Next;
 use std::io::{Read, Write};
+
+// How many bytes of the input are unread at most.
+const INPUT: usize = 65536;
+
+// How many bytes of lines are collected at most.
+const TEXT: usize = 4096;
+
+type Progress = dayrun_progress::Progress<INPUT, TEXT>;
 
 // Writes the collected lines.
 fn write_lines<W: Write>(writer: &mut W, progress: &mut Progress)
@@ -21,7 +29,7 @@ fn write_lines<W: Write>(writer: &mut W, progress: &mut Progress)
 // Whether the loop came to its end. A proved loop has to end, and nothing says that the input does: it takes a number of turns that no input uses up.
 fn answer_all<R: Read, W: Write>(reader: &mut R, writer: &mut W, book: &mut Book) -> bool
     requires { book_of book.old ≡ start_book }
-    ensures { Loops result book.new }
+    ensures { Loops INPUT TEXT result book.new }
 {
     let mut progress = Progress::start();
     for _turn in 0..u64::MAX {
@@ -38,7 +46,7 @@ fn answer_all<R: Read, W: Write>(reader: &mut R, writer: &mut W, book: &mut Book
 
 // The program: opens a book, and answers the records of the input on it. Whether it came to its end.
 pub fn answer_input<R: Read, W: Write>(reader: &mut R, writer: &mut W) -> bool
-    ensures { Answered result }
+    ensures { Answered INPUT TEXT result }
 {
     let mut book = [0u32; cells::CELLS];
     dayrun_records::open_book(&mut book);

@@ -8,15 +8,11 @@ use Rattle.dayrun_progress.specs.declared.Progress.{Progress}
 use Rattle.dayrun_progress.specs.declared.Next.{Next}
 use Rattle.dayrun_progress.specs.declared.Next.TheVariants.{Take, Write, Read, End}
 
--- ---- the state
+-- ---- the state, with this room for input and for lines
 
 -- the lines that wait to be written
-abbrev pub collected : Progress → List ℕ
+abbrev pub collected : {room size : ℕ} → Progress room size → List ℕ
 collected progress = progress.lines.items
-
--- how many bytes of lines are collected at most
-abbrev pub text_size : ℕ
-text_size = 4096
 
 -- ---- what comes next
 
@@ -25,11 +21,11 @@ unfoldable pub answerable : Bool → List ℕ → Bool
 answerable ended s = if ended then nat_lt 0 (length s) else settled s
 
 -- the program goes on, a line more fits the text, and the next record can be answered
-abbrev pub ready : Progress → Bool
-ready progress = not progress.done && nat_le (length (collected progress) + line_size) text_size && answerable progress.ended progress.unread
+abbrev pub ready : {room size : ℕ} → Progress room size → Bool
+ready {room} {size} progress = not progress.done && nat_le (length (collected progress) + line_size) size && answerable progress.ended progress.unread
 
 -- that record; else the collected lines are written; else the end, or a read
-unfoldable pub next_of : Progress → Next
+unfoldable pub next_of : {room size : ℕ} → Progress room size → Next
 next_of progress =
     if ready progress then Take else
     if nat_lt 0 (length (collected progress)) then Write else
@@ -38,19 +34,19 @@ next_of progress =
 -- ---- the steps
 
 -- nothing is read, and the first position is 1
-abbrev pub start_progress : Progress
+abbrev pub start_progress : {room size : ℕ} → Progress room size
 start_progress = record { unread = []; lines = record { items = [] }; position = 1; ended = false; done = false }
 
 -- the lines were written; where they couldn't be, the program is done
-abbrev pub wrote_progress : Progress → Bool → Progress
+abbrev pub wrote_progress : {room size : ℕ} → Progress room size → Bool → Progress room size
 wrote_progress progress written = record progress { lines = record { items = [] }; done = progress.done || not written }
 
 -- a read brought these bytes, behind the unread ones; none is the end of the input
-abbrev pub received_progress : Progress → List ℕ → Progress
+abbrev pub received_progress : {room size : ℕ} → Progress room size → List ℕ → Progress room size
 received_progress progress more = record progress { unread = progress.unread ++ more; ended = (length more == 0) }
 
 -- so it is after a read, of no byte too
-pub record ReadsMore (progress r : Progress) : Type 0 where
+pub record ReadsMore {room size : ℕ} (progress r : Progress room size) : Type 0 where
   pub count : ℕ
   pub brings : Brings progress.unread count r.unread
   pub received : r ≡ received_progress progress (take count brings.part)

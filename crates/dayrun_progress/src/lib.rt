@@ -4,21 +4,17 @@
 mod unread;
 
 ghost use Rattle.std.specs.Prelude.{◌≡◌, ◌<◌, length};
-ghost use Rattle.dayrun_settled.specs.Settled.{longest};
 ghost use Rattle.dayrun_progress.specs.States.{answerable, ready, next_of, start_progress, wrote_progress, ReadsMore};
 
 use arrayvec::ArrayVec;
 use std::io::Read;
 pub use unread::Unread;
 
-// How many bytes of lines are collected at most.
-pub const TEXT: usize = 4096;
-
 // The input that is read, the lines that wait to be written, and the position of the next record.
 // `ended` says that the input has ended, `done` that the program has: a 1 was answered, or the lines couldn't be written.
 #[derive(Drop)]
-pub struct Progress {
-    pub unread: Unread,
+pub struct Progress<const ROOM: usize, const TEXT: usize> {
+    pub unread: Unread<ROOM>,
     pub lines: ArrayVec<u8, TEXT>,
     pub position: u64,
     pub ended: bool,
@@ -34,7 +30,7 @@ pub enum Next {
     End,
 }
 
-impl Progress {
+impl<const ROOM: usize, const TEXT: usize> Progress<ROOM, TEXT> {
     // Nothing is read yet, and the first position is 1.
     pub fn start() -> Self
         ensures { result ≡ start_progress }
@@ -94,7 +90,7 @@ impl Progress {
 
     // Reads once. No byte is the end of the input.
     pub fn read_more<R: Read>(&mut self, reader: &mut R)
-        requires { length self.old.unread < longest }
+        requires { length self.old.unread < ROOM }
         ensures { ReadsMore self.old self.new }
     {
         let count = self.unread.read_more(reader);

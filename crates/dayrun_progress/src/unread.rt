@@ -5,18 +5,15 @@ ghost use Rattle.dayrun_progress.specs.Input.{Brings};
 use std::io::Read;
 use std::marker::Model;
 
-// The bytes of the buffer for the input.
-const INPUT: usize = 65536;
-
 // Those of the buffer from `from` up to `to`.
 #[derive(Drop)]
-pub struct Unread {
-    buffer: [u8; INPUT],
+pub struct Unread<const ROOM: usize> {
+    buffer: [u8; ROOM],
     from: usize,
     to: usize,
 }
 
-impl Model for Unread {
+impl<const ROOM: usize> Model for Unread<ROOM> {
     ghost Value = { List ℕ };
 
     ghost view = { λ u. slice_range u.buffer u.from u.to };
@@ -24,12 +21,12 @@ impl Model for Unread {
     ghost invariant = { λ u. (u.from ≤ u.to) × (u.to ≤ length u.buffer) };
 }
 
-impl Unread {
+impl<const ROOM: usize> Unread<ROOM> {
     pub fn new() -> Self
         ensures { result ≡ [] }
     {
         Unread {
-            buffer: [0; INPUT],
+            buffer: [0; ROOM],
             from: 0,
             to: 0,
         }
@@ -38,7 +35,8 @@ impl Unread {
     pub fn bytes(&self) -> &[u8]
         ensures { result.now ≡ self.now }
     {
-        &self.buffer[self.from..self.to]
+        let buffer = &self.buffer[..];
+        &buffer[self.from..self.to]
     }
 
     // The first bytes are taken.
@@ -51,13 +49,14 @@ impl Unread {
 
     // Moves them to the front of the buffer, and reads once behind them. A read that fails brings nothing.
     pub fn read_more<R: Read>(&mut self, reader: &mut R) -> usize
-        requires { length self.old < INPUT }
+        requires { length self.old < ROOM }
         ensures { Brings self.old result self.new }
     {
-        self.buffer.copy_within(self.from..self.to, 0);
+        let buffer = &mut self.buffer[..];
+        buffer.copy_within(self.from..self.to, 0);
         self.to -= self.from;
         self.from = 0;
-        let count = reader.read(&mut self.buffer[self.to..]).unwrap_or(0);
+        let count = reader.read(&mut buffer[self.to..]).unwrap_or(0);
         self.to += count;
         count
     }

@@ -1,6 +1,6 @@
 -- What a call record does to a book, and what the functions over records promise.
 -- Assumes nothing.
-use Rattle.std.specs.Prelude.{ℕ, ◌≤◌, ◌<◌, ◌≡◌, true, false, cond, List, [], ◌∷◌, eqb, length, get_or, Ok, Err}
+use Rattle.std.specs.Prelude.{ℕ, ◌≤◌, ◌<◌, ◌≡◌, true, false, if◌then◌else◌, List, [], ◌∷◌, ◌==◌, length, get_or, Ok, Err}
 use Rattle.std.specs.declared.result.Result.{Result}
 use Rattle.rules.specs.Book.{Book}
 use Rattle.rules.specs.Calls.{Call, AddDirection, AddParty, OfferDirection, OfferProfile, Bid, Nominate, Match, Reply, is_grant}
@@ -34,11 +34,11 @@ start_book = (run (opening 2015 6 1).book start_calls).book
 -- by its kind: 1 direction offer, 2 profile offer, 3 bid, 4 nomination, 5 matching
 unfoldable pub call_made : CallRecord → Call
 call_made c =
-    cond (eqb c.kind 1) (OfferDirection c.time c.direction c.hour.0 (get_or c.mw 0 0)) (
-    cond (eqb c.kind 2) (OfferProfile c.time c.profile c.hour.0 (get_or c.mw 0 0)) (
-    cond (eqb c.kind 3) (Bid c.time c.party c.direction c.session.0 c.mw) (
-    cond (eqb c.kind 4) (Nominate c.time c.party c.other c.right c.side c.mw)
-    (Match c.time c.direction c.session.0))))
+    if c.kind == 1 then OfferDirection c.time c.direction c.hour.0 (get_or c.mw 0 0)
+    else if c.kind == 2 then OfferProfile c.time c.profile c.hour.0 (get_or c.mw 0 0)
+    else if c.kind == 3 then Bid c.time c.party c.direction c.session.0 c.mw
+    else if c.kind == 4 then Nominate c.time c.party c.other c.right c.side c.mw
+    else Match c.time c.direction c.session.0
 
 -- a record of a kind is answered as its call; one of no kind, which the reader never gives, is refused with 1
 pub record AnswersRecord (before : List ℕ) (c : CallRecord) (r : Answer) (after : List ℕ) : Type 0 where
@@ -57,8 +57,7 @@ pub record Outcome : Type 0 where
 unfoldable pub at_front : Book → List ℕ → Outcome
 at_front b s =
     let c : Call = call_made (reading s).call in
-    cond (eqb (reading s).reply.number 0) (record { reply = (applied b c).reply; book = (applied b c).book; length = (reading s).length })
-    (record { reply = (reading s).reply; book = b; length = 0 })
+    if (reading s).reply.number == 0 then record { reply = (applied b c).reply; book = (applied b c).book; length = (reading s).length } else record { reply = (reading s).reply; book = b; length = 0 }
 
 -- what is answered to a record, read or not
 abbrev pub answer_of : Result Taken Refusal → Answer

@@ -15,7 +15,7 @@ pub struct Taken {
     pub length: usize,
 }
 
-// 1 June 2015, a Monday, with direction 0 and party 0.
+// 1 June 2015, a Monday, with direction 0 and party 0. The answers aren't looked at: the contract says which book the three calls make.
 pub fn open_book(book: &mut Book)
     ensures { book_of book.new ≡ start_book }
 {
@@ -24,7 +24,7 @@ pub fn open_book(book: &mut Book)
     let _ = daybook::add_party(book, *b"10XCZ-CEPS-GRIDE", 1);
 }
 
-// Makes the call of a record. A record of no kind is refused.
+// Makes the call of a record, by its kind, which is the record's own number and may be any byte (see `CallRecord`). A record of no kind is refused.
 fn answer_record(book: &mut Book, call: CallRecord) -> Answer
     ensures { AnswersRecord book.old call result book.new }
 {

@@ -1,6 +1,6 @@
 -- When the bytes at hand settle the answer to a record, whatever follows them.
 -- Assumes nothing.
-use Rattle.std.specs.Prelude.{ℕ, ◌<◌, ◌≡◌, Bool, true, false, ◌||◌, not, List, ◌++◌, eqb, length, get_or, drop, replicate}
+use Rattle.std.specs.Prelude.{ℕ, ◌<◌, ◌≡◌, Bool, true, false, ◌||◌, not, List, ◌++◌, ◌==◌, length, get_or, drop, replicate}
 use Rattle.rules.specs.Records.{map_for, bytes_of, reading}
 
 -- the map and all fields that it has bits for: a bound that no record exceeds (a nomination of five hours, the longest, has 20 bytes)
@@ -9,7 +9,7 @@ longest = 24
 
 -- the bytes begin with a record that the reader takes
 abbrev pub is_read : List ℕ → Bool
-is_read s = eqb (reading s).reply.number 0
+is_read s = (reading s).reply.number == 0
 
 -- the map of a kind's record without MW, and then bytes that are a kind, and no MW of 0
 unfoldable pub pattern : ℕ → List ℕ

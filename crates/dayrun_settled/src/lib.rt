@@ -1,13 +1,13 @@
 // When the bytes at hand settle the answer to a call record.
 #![tactic(auto)]
 
-ghost use Rattle.std.specs.Prelude.{◌≡◌, ◌∷◌, ◌++◌, ◌≤◌, length, drop, replicate};
+ghost use Rattle.std.specs.Prelude.{◌≡◌, ◌++◌, ◌≤◌, length, drop, replicate};
 ghost use Rattle.dayrun_settled.specs.Settled.{longest, is_read, can_be_read, settled};
 
 // The map and all fields that it has bits for: a bound that no record exceeds.
 pub const LONGEST: usize = 24;
 
-// Each kind, and the map of its record without MW, low byte first.
+// Each kind, by the record's own number (see `CallRecord`), and the map of its record without MW, low byte first.
 const PATTERNS: [(u8, [u8; 2]); 5] = [
     (1, [0x13, 0x40]),
     (2, [0x23, 0x40]),

@@ -1,6 +1,6 @@
 -- What the tables of fields and kinds say, and what the types of a call's fields do.
 -- Assumes nothing.
-use Rattle.std.specs.Prelude.{ℕ, zero, suc, ◌<◌, ◌≤◌, ◌^◌, ◌≡◌, Bool, ◌||◌, not, List, [], ◌∷◌, eqb, length, get_or}
+use Rattle.std.specs.Prelude.{ℕ, zero, suc, ◌<◌, ◌≤◌, ◌^◌, ◌≡◌, Bool, ◌||◌, not, List, [], ◌∷◌, ◌==◌, length, get_or}
 use Rattle.rules.specs.Basics.{bit, map_of, has}
 use Rattle.rules.specs.Records.{Kind, widths, fields_of, is_kind, map_for, taking}
 use Rattle.rules.specs.declared.CallRecord.{CallRecord}
@@ -31,4 +31,4 @@ pub record Size (field : ℕ) (stands : Bool) (r : ℕ) : Type 0 where
 
 -- the reader's tests of a map and the values that were read by it
 abbrev pub map_refused : ℕ → List ℕ → Bool
-map_refused map vs = bit map 15 || not (is_kind (get_or vs 0 0)) || not (eqb map (map_for (get_or vs 0 0) vs))
+map_refused map vs = bit map 15 || not (is_kind (get_or vs 0 0)) || not (map == map_for (get_or vs 0 0) vs)

@@ -1,7 +1,7 @@
 // The fields of a call record: the tables of their widths and of the kinds, a call as its fields, the map of a kind, and the tests of a map.
 #![tactic(auto)]
 
-ghost use Rattle.std.specs.Prelude.{◌≡◌, ◌||◌, ◌&&◌, not, ◌<◌, eqb, get_or};
+ghost use Rattle.std.specs.Prelude.{◌≡◌, ◌||◌, ◌&&◌, not, ◌<◌, ◌==◌, get_or};
 ghost use Rattle.rules.specs.Basics.{bit, has};
 ghost use Rattle.rules.specs.Records.{fields_of, call_of, kind_at, is_kind, stands, map_for, foreign};
 ghost use Rattle.fields.specs.Fields.{FieldsFit, CallFits, kind_maps, Size, map_refused};
@@ -99,7 +99,7 @@ impl Field {
     // It is foreign to the kind, and not zero.
     #[tactic(auto, using(std::proofs::lemmas::Bool::Decides::nat_tests, crate::proofs::KindBits::marked))]
     fn is_foreign(self, kind: u32, value: u32) -> bool
-        ensures { result ≡ (not (has self.bit (kind_at kind).always || has self.bit (kind_at kind).mws) && not (eqb value 0)) }
+        ensures { result ≡ (not (has self.bit (kind_at kind).always || has self.bit (kind_at kind).mws) && not (value == 0)) }
     {
         let maps = maps_of(kind);
         !(has_bit(maps.always, self.bit as u32) || has_bit(maps.mws, self.bit as u32)) && value != 0
@@ -144,6 +144,7 @@ impl Fields {
         self.0[0]
     }
 
+    // Not `From`, which can't ask its caller that the fields fit.
     #[tactic(auto, unfolding(rules::specs::Records::widths, rules::specs::Records::call_of))]
     pub fn call(self) -> CallRecord
         requires { FieldsFit self.0 }

@@ -1,6 +1,6 @@
 -- Numbers in decimal, and the line of a reply.
 -- Assumes nothing.
-use Rattle.std.specs.Prelude.{ℕ, zero, suc, ◌+◌, ◌/◌, ◌%◌, cond, List, [], ◌∷◌, ◌++◌, ltb}
+use Rattle.std.specs.Prelude.{ℕ, zero, suc, ◌+◌, ◌/◌, ◌%◌, if◌then◌else◌, List, [], ◌∷◌, ◌++◌, nat_lt}
 use Rattle.rules.specs.Calls.{Reply}
 
 -- no line has more bytes
@@ -10,7 +10,7 @@ line_size = 84
 -- the ASCII digits of a number, at most k of them
 unfoldable pub digits_of : ℕ → ℕ → List ℕ
 digits_of zero n = []
-digits_of (suc k) n = cond (ltb n 10) [] (digits_of k (n / 10)) ++ ((48 + n % 10) ∷ [])
+digits_of (suc k) n = (if nat_lt n 10 then [] else digits_of k (n / 10)) ++ ((48 + n % 10) ∷ [])
 
 -- twenty digits hold any number of 64 bits
 abbrev pub decimal : ℕ → List ℕ

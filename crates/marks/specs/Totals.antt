@@ -1,27 +1,21 @@
--- A side's totals under a right, pair by pair.
+-- A side's totals under a right, and the marks of the hours in which they are above it.
 -- Assumes nothing.
-use Rattle.std.specs.Prelude.{ℕ, ◌+◌, ◌*◌, ◌≤◌, ◌<◌, ◌≡◌, cond, List, eqb, get_or}
+use Rattle.std.specs.Prelude.{ℕ, List, [], ◌∷◌, nat_lt, get_or}
+use Rattle.rules.specs.Basics.{five, map_of}
 use Rattle.rules.specs.Book.{Pair}
-use Rattle.rules.specs.Nominations.{side_of, side_total}
-use Rattle.cells.specs.View.{pair_at}
+use Rattle.rules.specs.Nominations.{side_total}
 
--- what a pair adds to the total in an hour
-unfoldable pub share_of : ℕ → ℕ → ℕ → Pair → ℕ
-share_of r side hour x = cond (eqb x.right r) (get_or (side_of side x) hour 0) 0
+-- 01, Nominations and matching: a side's total under right r, hour by hour
+abbrev pub totals_of : ℕ → ℕ → List Pair → List ℕ
+totals_of r side ps = five (λ k. side_total r side k ps)
 
--- pair number k, and the rest
-unfoldable pub add_pair : List ℕ → ℕ → ℕ → ℕ → ℕ → ℕ → ℕ
-add_pair b r side hour k rest = share_of r side hour (pair_at b k) + rest
-
--- the totals of i pairs can't wrap: a cell is a number of 32 bits
-abbrev pub Bounded : ℕ → List ℕ → Type 0
-Bounded i totals = (hour : ℕ) → hour < 5 → get_or totals hour 0 ≤ i * 4294967295
-
--- the totals of the pairs before number i, with what pair i adds in each hour
-pub record SumsWith (b : List ℕ) (i r side : ℕ) (totals sums : List ℕ) : Type 0 where
-  pub sums_are : (hour : ℕ) → hour < 5 → get_or sums hour 0 ≡ get_or totals hour 0 + share_of r side hour (pair_at b i)
-  pub bounded : Bounded (i + 1) sums
-
--- the totals of the rules, in each hour
-pub record Summed (r side : ℕ) (ps : List Pair) (totals : List ℕ) : Type 0 where
-  pub totals_are : (hour : ℕ) → hour < 5 → get_or totals hour 0 ≡ side_total r side hour ps
+-- 01, Nominations and matching, marks: bit 0 marks the first hour in which a side's total is above the MW held
+unfoldable pub marks_of : List ℕ → ℕ → ℕ → List Pair → ℕ
+marks_of held r side ps =
+    map_of
+    (nat_lt (get_or held 0 0) (side_total r side 0 ps)
+    ∷ nat_lt (get_or held 1 0) (side_total r side 1 ps)
+    ∷ nat_lt (get_or held 2 0) (side_total r side 2 ps)
+    ∷ nat_lt (get_or held 3 0) (side_total r side 3 ps)
+    ∷ nat_lt (get_or held 4 0) (side_total r side 4 ps)
+    ∷ [])

@@ -1,31 +1,40 @@
--- The count of rights over the rows of cells is that of the rules over the book.
+-- The count of the rights of a session, over the rows of the table.
 -- Assumes nothing.
-use Prim.Native.Nat.{ℕ, zero, suc, ◌+◌, ◌≤◌}
-use mathlib.Core.Path.{◌≡◌, refl, ap}
-use mathlib.Core.Bool.{Bool, true, false, cond}
-use mathlib.Core.List.{List}
-use lib.Dec.{lit≤}
+use Rattle.std.proofs.Common.{ℕ, ◌+◌, ◌≡◌, ◌≤◌, Bool, true, false, cond, List, [], ◌∷◌, map, length, refl, ◌∙◌, arith}
+use Rattle.std.specs.List.{filter}
 use Rattle.rules.specs.Book.{Right, right_limit}
 use Rattle.rules.specs.Nominations.{count_rights}
 use Rattle.cells.specs.Layout.{RIGHTS}
-use Rattle.cells.specs.Loops.{each, rows}
-use Rattle.cells.specs.View.{counted, right_at, rights_in, book_of}
-use Rattle.matching.specs.Work.{is_of, one_of, tally}
+use Rattle.cells.specs.View.{rows_in, right_read, book_of}
+use Rattle.cells.proofs.Entries.{rights_are}
+use Rattle.cells.proofs.Views.{right_count}
+use Rattle.matching.specs.Work.{is_of}
 
--- a row counts for one right at most
-pub one_at_most : (d s : ℕ) (x : Right) → one_of d s x ≤ 1
-unfolding one_of
-one_at_most d s x = go (is_of d s x)
-  where
-    go : (t : Bool) → cond {A = ℕ} t 1 0 ≤ 1
-    go true = lit≤ tt
-    go false = lit≤ tt
+module _ (d s : ℕ) where
+  abbrev pub passes : List ℕ → Bool
+  passes row = is_of d s (right_read row)
 
-count_rows : (b : List ℕ) (d s n k : ℕ) → count_rights d s (rows (right_at b) n k) ≡ each (tally b d s) n k 0
-unfolding count_rights rows each tally one_of is_of
-count_rows b d s zero k = refl
-count_rows b d s (suc n) k = ap (λ (x : ℕ). one_of d s (right_at b k) + x) (count_rows b d s n (k + 1))
+  count_rows : (rows : List (List ℕ)) → length (filter passes rows) ≡ count_rights d s (map right_read rows)
+  unfolding count_rights is_of
+  count_rows [] = refl
+  count_rows (row ∷ rows) = go (is_of d s (right_read row)) (count_rows rows)
+    where
+      go : (t : Bool) → length (filter passes rows) ≡ count_rights d s (map right_read rows)
+          → length (cond t (row ∷ filter passes rows) (filter passes rows)) ≡ cond t 1 0 + count_rights d s (map right_read rows)
+      go true e = omega arith
+      go false e = omega arith
 
-pub count_is : (b : List ℕ) (d s : ℕ) → count_rights d s (book_of b).rights ≡ each (tally b d s) (counted b RIGHTS right_limit) 0 0
-unfolding book_of rights_in
-count_is b d s = count_rows b d s (counted b RIGHTS right_limit) 0
+  pub count_is : (b : List ℕ) {rows : List (List ℕ)} → rows ≡ rows_in b RIGHTS 8 right_limit → length (filter passes rows) ≡ count_rights d s (book_of b).rights
+  count_is b {rows} e = count_rows rows ∙ rw (e, rights_are b) refl
+
+  count_le : (rs : List Right) → count_rights d s rs ≤ length rs
+  unfolding count_rights is_of
+  count_le [] = omega arith
+  count_le (x ∷ xs) = go (is_of d s x) (count_le xs)
+    where
+      go : (t : Bool) → count_rights d s xs ≤ length xs → cond t 1 0 + count_rights d s xs ≤ length (x ∷ xs)
+      go true e = omega arith
+      go false e = omega arith
+
+  pub count_few : (b : List ℕ) → count_rights d s (book_of b).rights ≤ right_limit
+  count_few b = omega (arith, count_le (book_of b).rights, right_count b)

@@ -24,7 +24,7 @@ use Rattle.answers.proofs.Laws.{granted}
 use Rattle.matching.specs.Work.{Placed}
 use Rattle.matching.proofs.Tests.{KnownMatch, known_match}
 
-pub match_there : (b : List ℕ) (t d s : ℕ) → number (book_of b) (Match t d s) ≡ 0 → KnownMatch b d s
+pub match_there : (b : List ℕ) (t d s : ℕ) → number (book_of b) (Match t d s) ≡ 0 → KnownMatch d s
 unfolding order has refuses unknown
 match_there b t d s g = known_match b d s (fails (is_granted (book_of b) (Match t d s) (eq-eqb _ 0 g)) 6 tt)
 

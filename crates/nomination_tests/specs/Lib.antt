@@ -1,1 +1,1 @@
-pub mod Rights
+pub mod Named

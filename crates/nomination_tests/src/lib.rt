@@ -1,114 +1,106 @@
-// The tests of a nomination against its parties and its right.
+// What a nomination names in the book, and the tests of it.
 #![tactic(auto)]
 
-ghost use Rattle.std.specs.Prelude.{◌≡◌, ◌||◌, not, ◌<◌, ltb, eqb};
+ghost use Rattle.std.specs.Prelude.{◌≡◌, ◌||◌, not, if◌then◌else◌, drop, nat_lt, ◌==◌};
 ghost use Rattle.rules.specs.Basics.{bit, any_above};
-ghost use Rattle.rules.specs.Windows.{latest, nomination_timing};
-ghost use Rattle.rules.specs.Book.{party, model_of, party_limit, right_limit};
-ghost use Rattle.rules.specs.Refusals.{party_unknown, right_unknown, hours_lacking};
-ghost use Rattle.cells.specs.Layout.{PARTIES, RIGHTS};
-ghost use Rattle.cells.specs.View.{book_of, counted};
-ghost use Rattle.nomination_tests.specs.Rights.{right_holder, right_direction, right_session, operator_of};
+ghost use Rattle.rules.specs.Sessions.{hours_in};
+ghost use Rattle.rules.specs.Windows.{latest};
+ghost use Rattle.rules.specs.Book.{direction};
+ghost use Rattle.rules.specs.Sides.{side_number};
+ghost use Rattle.cells.specs.View.{book_of};
+ghost use Rattle.tables.specs.Rows.{direction_of};
+ghost use Rattle.nomination_tests.specs.Named.{FindsNamed};
 
+use answers::RightRead;
 use cells::Book;
-use rules::Timing;
+use day::DaySession;
+use rules::Side;
+use tables::Direction;
 
-// ---- the direction of a right: it may be none that is there, and is then read as zeros
-
-fn model_there(book: &Book, direction: u8) -> u32
-    ensures { result ≡ model_of (book_of book.now) direction }
-{
-    if answers::direction_unknown(book, direction) {
-        return 0;
-    }
-    tables::direction_at(book, direction).model
+// The numbers of a nomination.
+#[derive(Clone, Copy)]
+pub struct NominationCall {
+    pub time: u32,
+    pub sender: u8,
+    pub other: u8,
+    pub right: u16,
+    // Any number: `Side::try_from` refuses all but 0 and 1.
+    pub side: u8,
+    pub mw: [u16; 5],
 }
 
-// The operator of a side.
-fn operator_there(book: &Book, direction: u8, side: u8) -> u32
-    ensures { result ≡ operator_of (book_of book.now) direction side }
-{
-    if answers::direction_unknown(book, direction) {
-        return 0;
-    }
-    let there = tables::direction_at(book, direction);
-    if side != 0 {
-        return there.into;
-    }
-    there.out
+// What a nomination names: the map of its sender's access, and its right with the direction and the session.
+#[derive(Clone, Copy)]
+pub struct Named {
+    pub access: u32,
+    pub right: RightRead,
+    pub direction: Direction,
+    pub session: DaySession,
 }
 
-fn right_model(book: &Book, right: u16) -> u32
-    requires { right < counted book.now RIGHTS right_limit }
-    ensures { result ≡ model_of (book_of book.now) (right_direction (book_of book.now) right) }
+// The direction of a right may be none that is there: it is then read as zeros.
+fn direction_of(book: &Book, right: RightRead) -> Direction
+    ensures { direction_of result ≡ direction (book_of book.now).directions right.direction }
 {
-    model_there(book, tables::right_key(book, right).direction)
+    let none = Direction {
+        out: 0,
+        into: 0,
+        model: 0,
+    };
+    answers::direction_in(book, right.direction).unwrap_or(none)
+}
+
+// None where the sender, the other party or the right isn't there.
+pub fn named_in(book: &Book, call: NominationCall) -> Option<Named>
+    ensures { FindsNamed (book_of book.now) call result }
+{
+    if answers::party_unknown(book, call.other) {
+        return None;
+    }
+    let access = answers::access_in(book, call.sender)?;
+    let right = answers::right_in(book, call.right)?;
+    let direction = direction_of(book, right);
+    let session = cells::day(book).session(direction.model, right.session);
+    Some(Named {
+        access,
+        right,
+        direction,
+        session,
+    })
 }
 
 // ---- tests
 
-// The time, the side or a MW is out of range.
-pub fn nomination_field(time: u32, side: u8, mw: [u16; 5]) -> bool
-    ensures { result ≡ (ltb latest time || ltb 1 side || any_above 9999 mw) }
+// The time or a MW is out of range.
+pub fn nomination_field(time: u32, mw: [u16; 5]) -> bool
+    ensures { result ≡ (nat_lt latest time || any_above 9999 mw) }
 {
-    if time > rules::LATEST {
-        return true;
+    time > rules::LATEST || capacity::any_above(rules::MOST_MW, mw, 0)
+}
+
+impl Named {
+    // MW for an hour that the right's session lacks.
+    pub fn lacking_hours(self, mw: [u16; 5]) -> bool
+        ensures { result ≡ any_above 0 (drop (hours_in self.session.day.hours self.session.model self.session.session.0) mw) }
+    {
+        capacity::any_above(0, mw, self.session.hours())
     }
-    side > 1 || capacity::any_above(rules::MOST_MW, mw, 0)
-}
 
-pub fn nomination_unknown(book: &Book, sender: u8, other: u8, right: u16) -> bool
-    ensures { result ≡ (party_unknown (book_of book.now) sender || party_unknown (book_of book.now) other || right_unknown (book_of book.now) right) }
-{
-    if answers::party_unknown(book, sender) {
-        return true;
+    // The sender lacks access to the operator of its side.
+    pub fn no_access(self, side: Side) -> bool
+        ensures { result ≡ not (bit self.access (if side_number side == 0 then self.direction.out else self.direction.into)) }
+    {
+        let operator = match side {
+            Side::Out => self.direction.out,
+            Side::In => self.direction.into,
+        };
+        !rules::has_bit(self.access, operator)
     }
-    if answers::party_unknown(book, other) {
-        return true;
+
+    // Neither party holds the right.
+    pub fn not_owner(self, sender: u8, other: u8) -> bool
+        ensures { result ≡ not (self.right.holder == sender || self.right.holder == other) }
+    {
+        self.right.holder != sender && self.right.holder != other
     }
-    cells::RIGHTS.count(book) <= right as u32
-}
-
-// Where the time stands to the nominations of the right's session.
-pub fn timing(book: &Book, right: u16, time: u32) -> Timing
-    requires { right < counted book.now RIGHTS right_limit }
-    ensures { result ≡ nomination_timing (book_of book.now).day.hours (book_of book.now).day.weekday (model_of (book_of book.now) (right_direction (book_of book.now) right)) (right_session (book_of book.now) right) time }
-{
-    let model = right_model(book, right);
-    let session = tables::right_key(book, right).session;
-    windows::nomination_timing(cells::day(book).session(model, session), time)
-}
-
-// MW for an hour that the right's session lacks.
-pub fn lacking_hours(book: &Book, right: u16, mw: [u16; 5]) -> bool
-    requires { right < counted book.now RIGHTS right_limit }
-    ensures { result ≡ hours_lacking (book_of book.now) (right_direction (book_of book.now) right) (right_session (book_of book.now) right) mw }
-{
-    let model = right_model(book, right);
-    let session = tables::right_key(book, right).session;
-    let count = cells::day(book).session(model, session).hours();
-    capacity::any_above(0, mw, count)
-}
-
-// The sender lacks access to the operator of its side.
-pub fn no_access(book: &Book, sender: u8, right: u16, side: u8) -> bool
-    requires { (sender < counted book.now PARTIES party_limit) × (right < counted book.now RIGHTS right_limit) }
-    ensures { result ≡ not (bit (party (book_of book.now).parties sender).access (operator_of (book_of book.now) (right_direction (book_of book.now) right) side)) }
-{
-    let map = book[cells::PARTIES.row(sender as u32) + 16];
-    let direction = tables::right_key(book, right).direction;
-    let operator = operator_there(book, direction, side);
-    !rules::has_bit(map, operator)
-}
-
-// Neither party holds the right.
-pub fn not_owner(book: &Book, sender: u8, other: u8, right: u16) -> bool
-    requires { right < counted book.now RIGHTS right_limit }
-    ensures { result ≡ not (eqb (right_holder (book_of book.now) right) sender || eqb (right_holder (book_of book.now) right) other) }
-{
-    let holder = tables::right_key(book, right).holder;
-    if holder == sender {
-        return false;
-    }
-    holder != other
 }

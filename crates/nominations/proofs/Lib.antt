@@ -1,3 +1,1 @@
-pub mod Parties
-pub mod Verdicts
 pub mod Placing

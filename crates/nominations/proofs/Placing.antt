@@ -1,89 +1,72 @@
--- A nomination that nothing refuses: what it may rely on, and that its stores leave the book of the rules.
+-- A nomination's pair: 13 is that of the rules, and the stores of a nomination that nothing refuses leave the book of the rules, and its marks.
 -- Assumes nothing.
-use Rattle.std.specs.Prelude.{Ok}
-use Prim.Native.Nat.{ℕ, ◌+◌, ◌*◌, ◌≤◌, ◌<◌}
-use mathlib.Core.Path.{◌≡◌, ap, ◌∙◌}
-use mathlib.Core.Bool.{◌||◌}
-use mathlib.Core.List.{List}
-use native.Mathlib.Omega.{arith}
-use lib.Dec.{ltb}
-use lib.ListN.{length}
+use Rattle.std.proofs.Common.{◌≡◌, ℕ, ◌+◌, ◌*◌, ◌≤◌, Bool, ◌&&◌, leb, Option, List, length, Ok, refl, sym, ap, ◌∙◌, arith}
 use lib.Seq.{sets, length-sets}
-use borrow.Author.Tests.{eq-eqb, ltb-false}
-use Rattle.rules.specs.Basics.{has, any_above}
-use Rattle.rules.specs.Windows.{latest}
-use Rattle.rules.specs.Book.{Book, Pair, right_limit}
-use Rattle.rules.specs.Calls.{Nominate}
-use Rattle.rules.specs.Nominations.{out_of, into_of, with_pair, marks}
-use Rattle.rules.specs.Refusals.{order, refuses, field, unknown, number}
+use Rattle.rules.specs.Book.{Book, Pair, right, pair_limit}
+use Rattle.rules.specs.Nominations.{out_of, into_of, with_pair}
+use Rattle.rules.specs.Refusals.{refuses, full, number}
 use Rattle.rules.specs.Effects.{is_timed, clock_after, directions_after, profiles_after, parties_after, offered_after, granted_after, rights_after, pairs_after, matched_after, effect}
 use Rattle.rules.specs.Details.{detail}
-use Rattle.rules.proofs.Bools.{or_left, or_right, or-true}
-use Rattle.rules.proofs.Decisions.{is_granted, fails}
-use Rattle.cells.specs.Layout.{RIGHTS, PAIRS}
-use Rattle.cells.specs.View.{counted, book_of}
-use Rattle.stores.specs.Stores.{clocked}
+use Rattle.rules.specs.Sides.{side_number}
+use Rattle.rules.specs.declared.Side.{Side}
+use Rattle.rules.specs.declared.Side.TheVariants.{Out, In}
+use Rattle.rules.proofs.Bools.{or-true}
+use Rattle.cells.specs.Layout.{PAIRS}
+use Rattle.cells.specs.View.{book_of}
 use Rattle.cells.specs.Updates.{with_pairs, with_clock}
+use Rattle.stores.specs.Stores.{clocked}
 use Rattle.stores.proofs.Stores.{clock_set}
 use Rattle.stores.proofs.Pairs.{side_replaced}
-use Rattle.cells.proofs.Views.{right_count}
-use Rattle.pairs.specs.Work.{PairThere}
+use Rattle.marks.specs.Totals.{marks_of}
+use Rattle.marks.proofs.Sums.{marks_are}
+use Rattle.pairs.specs.Search.{standing_pair}
+use Rattle.pairs.specs.Work.{is_missing, PairThere}
+use Rattle.pairs.proofs.Pairs.{full_is as found_full}
 use Rattle.answers.specs.Promises.{Answers}
 use Rattle.answers.proofs.Laws.{granted}
-use Rattle.nominations.proofs.Verdicts.{known_nomination}
-use Rattle.nominations.specs.Work.{Placed}
+use Rattle.nomination_tests.specs.declared.NominationCall.{NominationCall}
+use Rattle.nomination_tests.specs.Named.{nominate_of}
+use Rattle.nominations.specs.declared.Entry.{Entry}
+use Rattle.nominations.specs.Work.{Cleared, Placed}
 
--- what a nomination that nothing refuses may rely on
-pub record Ready (b : List ℕ) (r side : ℕ) : Type 0 where
-  pub known : r < counted b RIGHTS right_limit
-  pub side_there : side ≤ 1
+side_there : (s : Side) → side_number s ≤ 1
+side_there Out = omega arith
+side_there In = omega arith
 
-pub ready : (b : List ℕ) (t p o r side : ℕ) (mw : List ℕ) → number (book_of b) (Nominate t p o r side mw) ≡ 0 → Ready b r side
-unfolding order has refuses field unknown
-ready b t p o r side mw g =
-    let f = is_granted (book_of b) (Nominate t p o r side mw) (eq-eqb _ 0 g) in
-    record {
-      known = (known_nomination b p o r (fails f 6 tt)).right;
-      side_there = ltb-false 1 side (or_right (ltb latest t) (ltb 1 side) (or_left (ltb latest t || ltb 1 side) (any_above 9999 mw) (fails f 3 tt)));
-    }
+-- ---- 13: the test of what the search found is that of the rules
+
+pub full_is : (b : List ℕ) (c : NominationCall) (s : Side) → side_number s ≡ c.side → (f : Option ℕ) {t : Bool} → f ≡ standing_pair b c.right (out_of c.sender c.other (side_number s)) (into_of c.sender c.other (side_number s))
+    → (leb pair_limit (length (book_of b).pairs) && is_missing f) ≡ t → refuses (book_of b) (nominate_of c) 13 ≡ t
+unfolding refuses full
+full_is b c s side f e h = rw (← side) (found_full b c.right (out_of c.sender c.other (side_number s)) (into_of c.sender c.other (side_number s)) e h)
 
 -- ---- all stores together
 
-module _ (b : List ℕ) (t p o r side : ℕ) (mw : List ℕ) (ok : Ready b r side) (size : length mw ≡ 5) (out into k : ℕ) (b1 b2 b3 : List ℕ)
-    (po : out ≡ out_of p o side) (pi : into ≡ into_of p o side) (s : PairThere b r out into k b1)
-    (e2 : b2 ≡ sets b1 (PAIRS + 4 + k * 13 + 5 * side) mw) (e3 : b3 ≡ clocked t b2) where
+module _ (b : List ℕ) (c : NominationCall) (e : Entry) (ok : Cleared b c e) (size : length c.mw ≡ 5) (out into k : ℕ) (b1 b2 b3 : List ℕ)
+    (po : out ≡ out_of c.sender c.other (side_number e.side)) (pi : into ≡ into_of c.sender c.other (side_number e.side)) (s : PairThere b c.right out into k b1)
+    (e2 : b2 ≡ sets b1 (PAIRS + 4 + k * 13 + 5 * side_number e.side) c.mw) (e3 : b3 ≡ clocked c.time b2) where
   abbrev after : List Pair
-  after = with_pair r (out_of p o side) (into_of p o side) side mw (book_of b).pairs
+  after = with_pair c.right (out_of c.sender c.other c.side) (into_of c.sender c.other c.side) c.side c.mw (book_of b).pairs
 
   side_book : book_of b2 ≡ with_pairs (book_of b) after
   side_book =
       let row = s.row in
       ap book_of e2
-      ∙ side_replaced b1 k side mw (omega arith) ok.side_there s.count size row
-      ∙ ap (λ (x : List Pair). with_pairs (book_of b1) x) (s.pair side mw ∙ rw (po, pi))
+      ∙ side_replaced b1 k (side_number e.side) c.mw (omega arith) (side_there e.side) s.count size row
+      ∙ ap (λ (x : List Pair). with_pairs (book_of b1) x) (s.pair (side_number e.side) c.mw ∙ rw (po, pi, ok.side_is) refl)
       ∙ ap (λ (x : Book). with_pairs x after) s.rest
 
-  all_book : book_of b3 ≡ with_clock (with_pairs (book_of b) after) t
-  all_book = ap book_of e3 ∙ clock_set b2 t (ap length e2 ∙ length-sets b1 _ mw ∙ s.count) ∙ ap (λ (x : Book). with_clock x t) side_book
+  all_book : book_of b3 ≡ with_clock (with_pairs (book_of b) after) c.time
+  all_book = ap book_of e3 ∙ clock_set b2 c.time (ap length e2 ∙ length-sets b1 _ c.mw ∙ s.count) ∙ ap (λ (x : Book). with_clock x c.time) side_book
 
-  -- the right is still there
-  pub right_left : r < counted b3 RIGHTS right_limit
-  right_left =
-      let m : length (book_of b3).rights ≡ length (book_of b).rights = ap (λ (x : Book). length x.rights) all_book in
-      let c = right_count b in
-      let d = right_count b3 in
-      let h = ok.known in
-      omega arith
-
-  pub placed : (n : ℕ) → n ≡ marks (book_of b3).rights (book_of b3).pairs r side → Placed b t p o r side mw n b3
+  pub placed : (n : ℕ) → n ≡ marks_of e.held c.right (side_number e.side) (book_of b3).pairs → Placed b c n b3
   unfolding effect is_timed clock_after directions_after profiles_after parties_after offered_after granted_after rights_after pairs_after matched_after detail
-  placed n e =
+  placed n q =
       record {
-        number_is = e ∙ ap (λ (x : Book). marks x.rights x.pairs r side) all_book;
-        book_is = all_book ∙ rw (or-true (book_of b).started);
+        number_is = q ∙ rw (ok.held_is, ok.side_is) (ap (λ (x : Book). marks_of (right (book_of b).rights c.right).mw c.right c.side x.pairs) all_book) ∙ sym (marks_are (book_of b).rights after c.right c.side);
+        book_is = all_book ∙ rw (or-true (book_of b).started) refl;
       }
 
-pub nomination_answers : (b b' : List ℕ) (t p o r side : ℕ) (mw : List ℕ) (n : ℕ) → number (book_of b) (Nominate t p o r side mw) ≡ 0 → Placed b t p o r side mw n b'
-    → Answers b (Nominate t p o r side mw) (Ok n) b'
-nomination_answers b b' t p o r side mw n g w =
-    granted b b' (Nominate t p o r side mw) n g w.number_is w.book_is
+pub nomination_answers : (b b' : List ℕ) (c : NominationCall) (n : ℕ) → number (book_of b) (nominate_of c) ≡ 0 → Placed b c n b' → Answers b (nominate_of c) (Ok n) b'
+nomination_answers b b' c n g w =
+    granted b b' (nominate_of c) n g w.number_is w.book_is

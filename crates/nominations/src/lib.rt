@@ -2,128 +2,92 @@
 #![tactic(auto)]
 
 ghost use Rattle.std.specs.Prelude.{◌≡◌};
-ghost use Rattle.rules.specs.Calls.{Nominate};
 ghost use Rattle.rules.specs.Nominations.{out_of, into_of};
-ghost use Rattle.pairs.specs.Search.{standing_pair};
+ghost use Rattle.rules.specs.Sides.{side_number};
 ghost use Rattle.answers.specs.Promises.{Answers};
+ghost use Rattle.nomination_tests.specs.Named.{nominate_of};
 ghost use Rattle.nominations.specs.Work.{Cleared, JudgedNomination, Placed};
 
 use cells::Book;
+use nomination_tests::NominationCall;
 use pairs::PairKey;
-use rules::{Answer, Refusal};
+use rules::{Answer, Refusal, Side};
 
-// ---- the parties of a nomination
-
-fn out_party(sender: u8, other: u8, side: u8) -> u32
-    ensures { result ≡ out_of sender other side }
-{
-    if side == 0 {
-        return sender as u32;
-    }
-    other as u32
+// What a nomination that nothing is against finds: its side, the MW of its right, and its pair, which may be a new one.
+#[derive(Clone, Copy)]
+struct Entry {
+    side: Side,
+    held: [u32; 5],
+    pair: Option<u32>,
 }
 
-fn in_party(sender: u8, other: u8, side: u8) -> u32
-    ensures { result ≡ into_of sender other side }
+// The pair of a nomination: its sender is the party of its side.
+fn key_of(call: NominationCall, side: Side) -> PairKey
+    ensures right { result.right ≡ call.right }
+    ensures out { result.out ≡ out_of call.sender call.other (side_number side) }
+    ensures into { result.into ≡ into_of call.sender call.other (side_number side) }
 {
-    if side == 0 {
-        return other as u32;
-    }
-    sender as u32
-}
-
-fn key_of(sender: u8, other: u8, right: u16, side: u8) -> PairKey
-    ensures right { result.right ≡ right }
-    ensures out { result.out ≡ out_of sender other side }
-    ensures into { result.into ≡ into_of sender other side }
-{
+    let (out, into) = match side {
+        Side::Out => (call.sender, call.other),
+        Side::In => (call.other, call.sender),
+    };
     PairKey {
-        right: right as u32,
-        out: out_party(sender, other, side),
-        into: in_party(sender, other, side),
+        right: call.right as u32,
+        out: out as u32,
+        into: into as u32,
     }
-}
-
-// The search for the pair of a nomination.
-fn nominated_pair(book: &Book, sender: u8, other: u8, right: u16, side: u8) -> Option<u32>
-    ensures { result ≡ standing_pair book.now right (out_of sender other side) (into_of sender other side) }
-{
-    pairs::standing_pair(book, key_of(sender, other, right, side))
 }
 
 // ---- the verdict
 
-// Where nothing is against the nomination, what the search for its pair found.
-fn nomination_verdict(
-    book: &Book,
-    time: u32,
-    sender: u8,
-    other: u8,
-    right: u16,
-    side: u8,
-    mw: [u16; 5],
-) -> Result<Option<u32>, Refusal>
-    ensures { JudgedNomination book.now time sender other right side mw result }
+// Where nothing is against the nomination, its entry.
+fn nomination_verdict(book: &Book, call: NominationCall) -> Result<Entry, Refusal>
+    ensures { JudgedNomination book.now call result }
 {
-    if nomination_tests::nomination_field(time, side, mw) {
+    let side = Side::try_from(call.side)?;
+    if nomination_tests::nomination_field(call.time, call.mw) {
         return Err(Refusal::Field);
     }
-    if answers::before_clock(book, time) {
+    if answers::before_clock(book, call.time) {
         return Err(Refusal::Clock);
     }
-    if nomination_tests::nomination_unknown(book, sender, other, right) {
+    let Some(named) = nomination_tests::named_in(book, call) else {
         return Err(Refusal::Unknown);
-    }
-    answers::window_verdict(nomination_tests::timing(book, right, time))?;
-    if nomination_tests::lacking_hours(book, right, mw) {
+    };
+    answers::window_verdict(windows::nomination_timing(named.session, call.time))?;
+    if named.lacking_hours(call.mw) {
         return Err(Refusal::Hours);
     }
-    if nomination_tests::no_access(book, sender, right, side) {
+    if named.no_access(side) {
         return Err(Refusal::Access);
     }
-    if nomination_tests::not_owner(book, sender, other, right) {
+    if named.not_owner(call.sender, call.other) {
         return Err(Refusal::Owner);
     }
-    let standing = nominated_pair(book, sender, other, right, side);
-    if pairs::pairs_full(book, standing) {
+    let pair = pairs::standing_pair(book, key_of(call, side));
+    if pairs::pairs_full(book, pair) {
         return Err(Refusal::Full);
     }
-    Ok(standing)
+    let held = named.right.mw;
+    Ok(Entry { side, held, pair })
 }
 
 // ---- a granted nomination
 
 // The stores of a granted nomination: its marks, after it took its place.
-fn place_nomination(
-    book: &mut Book,
-    time: u32,
-    sender: u8,
-    other: u8,
-    right: u16,
-    side: u8,
-    mw: [u16; 5],
-    found: Option<u32>,
-) -> u32
-    requires { Cleared book.old time sender other right side mw found }
-    ensures { Placed book.old time sender other right side mw result book.new }
+fn place_nomination(book: &mut Book, call: NominationCall, entry: Entry) -> u32
+    requires { Cleared book.old call entry }
+    ensures { Placed book.old call result book.new }
 {
-    let pair = pairs::take_pair(book, key_of(sender, other, right, side), found);
-    pairs::write_side(book, pair, side, mw);
-    stores::set_clock(book, time);
-    marks::marks(book, right, side)
+    let pair = pairs::take_pair(book, key_of(call, entry.side), entry.pair);
+    pairs::write_side(book, pair, entry.side, call.mw);
+    stores::set_clock(book, call.time);
+    marks::marks(book, call.right, entry.held, entry.side)
 }
 
-pub fn nominate(
-    book: &mut Book,
-    time: u32,
-    sender: u8,
-    other: u8,
-    right: u16,
-    side: u8,
-    mw: [u16; 5],
-) -> Answer
-    ensures { Answers book.old (Nominate time sender other right side mw) result book.new }
+pub fn nominate(book: &mut Book, call: NominationCall) -> Answer
+    ensures { Answers book.old (nominate_of call) result book.new }
 {
-    let found = nomination_verdict(book, time, sender, other, right, side, mw)?;
-    Ok(place_nomination(book, time, sender, other, right, side, mw, found))
+    let entry = nomination_verdict(book, call)?;
+    Ok(place_nomination(book, call, entry))
 }

@@ -1,52 +1,53 @@
 -- The number of an offer's reply, test by test, and what the stores of a granted one leave.
 -- Assumes nothing.
-use Rattle.std.specs.Prelude.{Ok}
+use Rattle.std.specs.Prelude.{Option, Some, None, Ok, Err}
+use Rattle.std.specs.Option.{ok_or}
 use Prim.Native.Nat.{ℕ, ◌+◌, ◌-◌}
-use lib.Dec.{ltb, eqb}
-use mathlib.Core.Bool.{false, ◌||◌}
+use lib.Dec.{ltb}
+use mathlib.Core.Bool.{true, false, ◌||◌}
 use mathlib.Core.Path.{◌≡◌, refl, sym, ap, ◌∙◌}
 use mathlib.Core.List.{List, [], ◌∷◌}
 use native.Mathlib.Omega.{arith}
-use borrow.Author.Tests.{eq-eqb}
 use lib.ListN.{length-set, get_or, set}
 use Rattle.rules.specs.Book.{Book, place}
 use Rattle.rules.specs.Calls.{Call}
 use Rattle.rules.specs.Windows.{latest, offer_timing}
 use Rattle.rules.specs.Refusals.{order, first_of, setup_shut, field, clock, unknown, hour_unknown, timing_of, taken, wrong_hours, no_access, not_owner, cycle, full, shortage_of, refuses, number}
 use Rattle.rules.specs.Effects.{is_timed, clock_after, directions_after, profiles_after, parties_after, offered_after, granted_after, rights_after, pairs_after, matched_after, effect}
-use Rattle.rules.specs.Details.{detail}
+use Rattle.rules.specs.Details.{detail, refusal}
+use Rattle.rules.specs.declared.Refusal.{Refusal}
+use Rattle.rules.specs.declared.Refusal.TheVariants.{Field, Clock, Unknown}
 use Rattle.rules.proofs.Bools.{or-true}
 use Rattle.cells.specs.Layout.{OFFERED}
 use Rattle.cells.specs.View.{InHour, book_of}
 use Rattle.cells.specs.Updates.{with_offered, with_clock}
 use Rattle.stores.proofs.Stores.{offered_set, clock_set}
 use Rattle.cells.proofs.Views.{granted_place}
-use Rattle.answers.specs.Promises.{Answers}
+use Rattle.answers.specs.Promises.{Answers, Refused}
 use Rattle.answers.specs.Capacities.{capacity_unknown, row_of, offered_model, offer_of}
 use Rattle.answers.specs.declared.Capacity.{Capacity}
 use Rattle.answers.specs.declared.Capacity.TheVariants.{Direction, Profile}
-use Rattle.answers.proofs.Laws.{Left, granted}
+use Rattle.answers.proofs.Laws.{Left, pass, refuse, granted}
 use Rattle.offers.specs.Work.{Placed}
 
--- the numbers that can apply to an offer
-pub offer_left : (b : Book) (x : Capacity) (t h mw : ℕ) → Left b (offer_of x t h mw) (3 ∷ 5 ∷ 6 ∷ 16 ∷ 8 ∷ [])
+-- ---- the tests, one after the other, as the rules make them
+
+offer_left : (b : Book) (x : Capacity) (t h mw : ℕ) → Left b (offer_of x t h mw) (3 ∷ 5 ∷ 6 ∷ 16 ∷ 8 ∷ [])
 unfolding first_of order refuses setup_shut taken wrong_hours no_access not_owner cycle full shortage_of
 offer_left b (Direction d) t h mw = record { number_is = refl }
 offer_left b (Profile p) t h mw = record { number_is = refl }
 
--- ---- the conditions of both kinds
-
-pub field_is : (b : Book) (x : Capacity) (t h mw : ℕ) → refuses b (offer_of x t h mw) 3 ≡ (ltb latest t || ltb 9999 mw)
+field_is : (b : Book) (x : Capacity) (t h mw : ℕ) → refuses b (offer_of x t h mw) 3 ≡ (ltb latest t || ltb 9999 mw)
 unfolding refuses field
 field_is b (Direction d) t h mw = refl
 field_is b (Profile p) t h mw = refl
 
-pub clock_is : (b : Book) (x : Capacity) (t h mw : ℕ) → refuses b (offer_of x t h mw) 5 ≡ ltb t b.clock
+clock_is : (b : Book) (x : Capacity) (t h mw : ℕ) → refuses b (offer_of x t h mw) 5 ≡ ltb t b.clock
 unfolding refuses clock
 clock_is b (Direction d) t h mw = refl
 clock_is b (Profile p) t h mw = refl
 
-pub unknown_is : (b : Book) (x : Capacity) (t h mw : ℕ) → refuses b (offer_of x t h mw) 6 ≡ (capacity_unknown b x || hour_unknown b h)
+unknown_is : (b : Book) (x : Capacity) (t h mw : ℕ) → refuses b (offer_of x t h mw) 6 ≡ (capacity_unknown b x || hour_unknown b h)
 unfolding refuses unknown
 unknown_is b (Direction d) t h mw = refl
 unknown_is b (Profile p) t h mw = refl
@@ -55,6 +56,40 @@ pub timing_is : (b : Book) (x : Capacity) (t h mw : ℕ) → offer_timing b.day.
 unfolding timing_of
 timing_is b (Direction d) t h mw = refl
 timing_is b (Profile p) t h mw = refl
+
+module _ (b : Book) (x : Capacity) (t h mw : ℕ) where
+  pub field_refused : (ltb latest t || ltb 9999 mw) ≡ true → Refused b (offer_of x t h mw) Field
+  unfolding refusal
+  field_refused e = refuse Field (offer_left b x t h mw) (field_is b x t h mw ∙ e) refl refl
+
+  module _ (in_field : (ltb latest t || ltb 9999 mw) ≡ false) where
+    past_field : Left b (offer_of x t h mw) (5 ∷ 6 ∷ 16 ∷ 8 ∷ [])
+    past_field = pass (offer_left b x t h mw) (field_is b x t h mw ∙ in_field)
+
+    pub clock_refused : ltb t b.clock ≡ true → Refused b (offer_of x t h mw) Clock
+    unfolding refusal
+    clock_refused e = refuse Clock past_field (clock_is b x t h mw ∙ e) refl refl
+
+    module _ (in_order : ltb t b.clock ≡ false) where
+      past_clock : Left b (offer_of x t h mw) (6 ∷ 16 ∷ 8 ∷ [])
+      past_clock = pass past_field (clock_is b x t h mw ∙ in_order)
+
+      pub unknown_refused : (capacity_unknown b x || hour_unknown b h) ≡ true → Refused b (offer_of x t h mw) Unknown
+      unfolding refusal
+      unknown_refused e = refuse Unknown past_clock (unknown_is b x t h mw ∙ e) refl refl
+
+      pub known : (capacity_unknown b x || hour_unknown b h) ≡ false → Left b (offer_of x t h mw) (16 ∷ 8 ∷ [])
+      known e = pass past_clock (unknown_is b x t h mw ∙ e)
+
+-- ---- what a search that is refused otherwise found
+
+pub found_or : {A : Type 0} (r : Option A) (e : Refusal) (x : A) → Ok x ≡ ok_or r e → r ≡ Some x
+found_or None e x q = cc
+found_or (Some y) e x q = cc
+
+pub none_or : {A : Type 0} (r : Option A) (e x : Refusal) → Err x ≡ ok_or r e → (r ≡ None) × (x ≡ e)
+none_or None e x q = (refl, cc)
+none_or (Some y) e x q = (cc, cc)
 
 -- ---- its effect: the offer of row l in hour h is mw, and the clock is t
 

@@ -1,67 +1,58 @@
 // Offers. No call has a `requires`: each promise is an equation with the rules, whatever the cells hold.
 #![tactic(auto)]
 
-ghost use Rattle.std.specs.Prelude.{◌≡◌, ◌||◌, false, ltb};
-ghost use Rattle.rules.specs.Windows.{latest, offer_timing};
-ghost use Rattle.rules.specs.Refusals.{hour_unknown};
+ghost use Rattle.std.specs.Prelude.{◌≡◌, ◌||◌, nat_lt};
+ghost use Rattle.rules.specs.Windows.{latest};
 ghost use Rattle.cells.specs.View.{book_of};
 ghost use Rattle.answers.specs.Promises.{Answers};
-ghost use Rattle.answers.specs.Capacities.{capacity_unknown, offered_model, offer_of};
-ghost use Rattle.offers.specs.Work.{JudgedOffer, Placed};
+ghost use Rattle.offers.specs.Work.{offer_call, FindsModel, JudgedOffer, Placed};
 
 use answers::Capacity;
 use cells::{Book, Place};
-use rules::{Answer, Hour, Refusal, Timing};
+use rules::{Answer, Hour, Refusal};
+
+// An operator's offer: the MW of a direction or a profile in an hour, and when.
+#[derive(Clone, Copy)]
+pub struct OfferCall {
+    pub time: u32,
+    pub capacity: Capacity,
+    pub hour: Hour,
+    pub mw: u16,
+}
 
 // ---- tests
 
 // The time or the MW is out of range.
 fn offer_field(time: u32, mw: u16) -> bool
-    ensures { result ≡ (ltb latest time || ltb 9999 mw) }
+    ensures { result ≡ (nat_lt latest time || nat_lt 9999 mw) }
 {
     time > rules::LATEST || mw > rules::MOST_MW
 }
 
-// The model of the sessions whose windows an offer keeps: a profile's hour is taken as a one-hour session.
-fn model_of(book: &Book, capacity: Capacity) -> u32
-    requires { capacity_unknown (book_of book.now) capacity ≡ false }
-    ensures { result ≡ offered_model (book_of book.now) capacity }
+// The model of the sessions whose windows an offer keeps: a profile's hour is taken as a one-hour session. None for a direction that isn't there.
+fn model_of(book: &Book, capacity: Capacity) -> Option<u32>
+    ensures { FindsModel (book_of book.now) capacity result }
 {
     match capacity {
-        Capacity::Direction(direction) => tables::direction_at(book, direction).model,
-        Capacity::Profile(_) => 1,
+        Capacity::Direction(direction) => Some(answers::direction_in(book, direction)?.model),
+        Capacity::Profile(_) => Some(1),
     }
-}
-
-// Where the time stands to the offers of the session that holds the hour.
-#[tactic(auto, unfolding(cells::specs::View::book_of))]
-fn timing(book: &Book, model: u32, hour: Hour, time: u32) -> Timing
-    ensures { result ≡ offer_timing (book_of book.now).day.hours (book_of book.now).day.weekday model hour.0 time }
-{
-    windows::offer_timing(cells::day(book), model, hour, time)
 }
 
 // Where nothing is against the offer, its place.
-fn offer_verdict(
-    book: &Book,
-    time: u32,
-    capacity: Capacity,
-    hour: Hour,
-    mw: u16,
-) -> Result<Place, Refusal>
-    ensures { JudgedOffer (book_of book.now) time capacity hour mw result }
+fn offer_verdict(book: &Book, call: OfferCall) -> Result<Place, Refusal>
+    ensures { JudgedOffer (book_of book.now) call result }
 {
-    if offer_field(time, mw) {
+    if offer_field(call.time, call.mw) {
         return Err(Refusal::Field);
     }
-    if answers::before_clock(book, time) {
+    if answers::before_clock(book, call.time) {
         return Err(Refusal::Clock);
     }
-    let Some(place) = answers::place_in(book, capacity, hour) else {
-        return Err(Refusal::Unknown);
-    };
-    let model = model_of(book, capacity);
-    answers::window_verdict(timing(book, model, hour, time))?;
+    let place = answers::place_in(book, call.capacity, call.hour).ok_or(Refusal::Unknown)?;
+    let model = model_of(book, call.capacity).ok_or(Refusal::Unknown)?;
+    let day = cells::day(book);
+    answers::window_verdict(windows::offer_timing(day, model, call.hour, call.time))?;
     Ok(place)
 }
 
@@ -78,10 +69,9 @@ fn place_offer(book: &mut Book, time: u32, at: Place, mw: u16) -> u32
     (mw as u32).saturating_sub(granted)
 }
 
-// The MW of a direction or a profile in an hour.
-pub fn offer(book: &mut Book, time: u32, capacity: Capacity, hour: Hour, mw: u16) -> Answer
-    ensures { Answers book.old (offer_of capacity time hour.0 mw) result book.new }
+pub fn offer(book: &mut Book, call: OfferCall) -> Answer
+    ensures { Answers book.old (offer_call call) result book.new }
 {
-    let place = offer_verdict(book, time, capacity, hour, mw)?;
-    Ok(place_offer(book, time, place, mw))
+    let place = offer_verdict(book, call)?;
+    Ok(place_offer(book, call.time, place, call.mw))
 }

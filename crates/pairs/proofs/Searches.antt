@@ -1,19 +1,15 @@
 -- The search for a pair is the rules' search.
 -- Assumes nothing.
-use Rattle.std.specs.Prelude.{Option, Some, None}
-use Prim.Native.Nat.{ℕ, ◌+◌, ◌*◌, ◌≤◌, ◌<◌}
-use mathlib.Core.Path.{◌≡◌, sym, ◌∙◌}
-use mathlib.Core.Bool.{true, false, ◌&&◌}
-use mathlib.Core.List.{List}
-use native.Mathlib.Omega.{arith}
-use lib.ListN.{length}
+use Rattle.std.proofs.Common.{◌≡◌, ℕ, ◌≤◌, ◌<◌, true, false, List, Option, Some, None, length, get_or, refl, sym, ◌∙◌, arith}
+use Rattle.std.specs.List.{position}
 use borrow.Author.Tests.{lt-ltb, le-ltb}
 use Rattle.rules.specs.Book.{pair_limit}
 use Rattle.rules.specs.Nominations.{is_pair_of, pair_taken, pair_of, empty_pair}
 use Rattle.cells.specs.Layout.{PAIRS}
-use Rattle.cells.specs.View.{cell, counted, pair_at, pairs_in, book_of}
-use Rattle.stores.proofs.Firsts.{place_of, some_is, first_at, first_none}
-use Rattle.cells.proofs.Views.{pair_count, pair_at_lem}
+use Rattle.cells.specs.View.{counted, rows_in, pair_read, book_of}
+use Rattle.stores.proofs.Firsts.{place_of, some_is, position_in, position_at, position_none}
+use Rattle.cells.proofs.Entries.{pairs_are}
+use Rattle.cells.proofs.Views.{pair_count}
 use Rattle.stores.proofs.Pairs.{pair_taken_lem, pair_from}
 use Rattle.pairs.specs.Search.{standing_pair}
 
@@ -21,32 +17,30 @@ use Rattle.pairs.specs.Search.{standing_pair}
 abbrev pub place : List ℕ → ℕ → ℕ → ℕ → ℕ
 place b r o i = place_of (is_pair_of r o i) (book_of b).pairs
 
--- the number and the place of what was found
-found_at : (b : List ℕ) (r o i k : ℕ) → standing_pair b r o i ≡ Some k → (k ≡ place b r o i) × (k < counted b PAIRS pair_limit)
-unfolding standing_pair book_of pairs_in
-found_at b r o i k e = first_at (is_pair_of r o i) (pair_at b) (counted b PAIRS pair_limit) k e
-
-found_none : (b : List ℕ) (r o i : ℕ) → standing_pair b r o i ≡ None → counted b PAIRS pair_limit ≤ place b r o i
-unfolding standing_pair book_of pairs_in
-found_none b r o i e = first_none (is_pair_of r o i) (pair_at b) (counted b PAIRS pair_limit) e
+-- what the library's search over the rows finds
+pub row_found : (b : List ℕ) (r o i : ℕ) {rs : List (List ℕ)} {f : Option ℕ} → rs ≡ rows_in b PAIRS 13 pair_limit → f ≡ position (λ row. is_pair_of r o i (pair_read row)) rs → f ≡ standing_pair b r o i
+unfolding standing_pair
+row_found b r o i {rs} e q = q ∙ position_in (is_pair_of r o i) pair_read rs ∙ rw (e, pairs_are b) refl
 
 -- a pair that the search found
 pub record Standing (b : List ℕ) (r o i k : ℕ) : Type 0 where
   pub there : pair_taken r o i (book_of b).pairs ≡ true
   pub row : k < counted b PAIRS pair_limit
   pub most : k < pair_limit
-  pub pair_is : pair_of r o i (book_of b).pairs ≡ pair_at b k
+  pub pair_is : pair_of r o i (book_of b).pairs ≡ get_or (book_of b).pairs k (empty_pair r o i)
   pub place_is : place b r o i ≡ k
 
 pub standing_at : (b : List ℕ) (r o i k : ℕ) → standing_pair b r o i ≡ Some k → Standing b r o i k
+unfolding standing_pair
 standing_at b r o i k e =
-    let f = found_at b r o i k e in
+    let f : (k ≡ place b r o i) × (k < length (book_of b).pairs) = position_at (is_pair_of r o i) (book_of b).pairs k e in
+    let l : k < counted b PAIRS pair_limit = rw (pair_count b) at f.1 in
     let p : place b r o i ≡ k = sym f.0 in
     record {
-      there = pair_taken_lem r o i (book_of b).pairs ∙ some_is (is_pair_of r o i) (book_of b).pairs ∙ lt-ltb (place b r o i) (length (book_of b).pairs) (rw (p, pair_count b) f.1);
-      row = f.1;
+      there = pair_taken_lem r o i (book_of b).pairs ∙ some_is (is_pair_of r o i) (book_of b).pairs ∙ lt-ltb (place b r o i) (length (book_of b).pairs) (rw p f.1);
+      row = l;
       most = omega arith;
-      pair_is = pair_from r o i (book_of b).pairs ∙ rw p (pair_at_lem b k (empty_pair r o i) f.1);
+      pair_is = pair_from r o i (book_of b).pairs ∙ rw p refl;
       place_is = p;
     }
 
@@ -56,8 +50,9 @@ pub record Lacking (b : List ℕ) (r o i : ℕ) : Type 0 where
   pub past : length (book_of b).pairs ≤ place b r o i
 
 pub standing_none : (b : List ℕ) (r o i : ℕ) → standing_pair b r o i ≡ None → Lacking b r o i
+unfolding standing_pair
 standing_none b r o i e =
-    let p : length (book_of b).pairs ≤ place b r o i = rw (pair_count b) (found_none b r o i e) in
+    let p : length (book_of b).pairs ≤ place b r o i = position_none (is_pair_of r o i) (book_of b).pairs e in
     record {
       none = pair_taken_lem r o i (book_of b).pairs ∙ some_is (is_pair_of r o i) (book_of b).pairs ∙ le-ltb (place b r o i) (length (book_of b).pairs) p;
       past = p;

@@ -1,6 +1,6 @@
 -- What is found of the pair of a nomination, and what a granted one leaves in the table of pairs.
 -- Assumes nothing.
-use Rattle.std.specs.Prelude.{Option, Some, None, ℕ, ◌<◌, ◌≡◌, Bool, true, false, ◌&&◌, List, ◌∷◌, ◌++◌, leb, length, set}
+use Rattle.std.specs.Prelude.{Option, Some, None, ℕ, ◌<◌, ◌≡◌, Bool, true, false, ◌&&◌, List, ◌∷◌, ◌++◌, nat_le, length, set}
 use Rattle.rules.specs.Basics.{no_mw}
 use Rattle.rules.specs.Book.{pair_limit}
 use Rattle.rules.specs.Nominations.{with_side, with_pair}
@@ -18,7 +18,7 @@ is_missing None = true
 -- what the search for the pair found, and 13 does not refuse
 pub record Enters (b : List ℕ) (r o i : ℕ) (f : Option ℕ) : Type 0 where
   pub found_is : f ≡ standing_pair b r o i
-  pub free : (leb pair_limit (length (book_of b).pairs) && is_missing f) ≡ false
+  pub free : (nat_le pair_limit (length (book_of b).pairs) && is_missing f) ≡ false
 
 -- a new pair with no MW
 pub record NewPair (b : List ℕ) (r o i n : ℕ) (b' : List ℕ) : Type 0 where

@@ -1,16 +1,17 @@
 // The table of pairs: the search for a pair, new pairs, and the MW of a side.
 #![tactic(auto)]
 
-ghost use Rattle.std.specs.Prelude.{◌≡◌, ◌&&◌, ◌+◌, ◌*◌, ◌<◌, ◌≤◌, leb, length};
+ghost use Rattle.std.specs.Prelude.{◌≡◌, ◌&&◌, ◌+◌, ◌*◌, ◌<◌, ◌≤◌, nat_le, length};
 ghost use Rattle.std.proofs.lemmas.List.Edits.{sets};
 ghost use Rattle.rules.specs.Book.{pair_limit};
-ghost use Rattle.rules.specs.Nominations.{is_pair_of};
-ghost use Rattle.cells.specs.Layout.{PAIRS};
-ghost use Rattle.cells.specs.View.{book_of, counted, pair_at};
+ghost use Rattle.rules.specs.Sides.{side_number};
+ghost use Rattle.cells.specs.Layout.{CELLS, PAIRS};
+ghost use Rattle.cells.specs.View.{book_of, counted, pair_read};
 ghost use Rattle.pairs.specs.Search.{standing_pair};
 ghost use Rattle.pairs.specs.Work.{is_missing, Enters, NewPair, PairThere};
 
 use cells::Book;
+use rules::Side;
 
 // What tells a pair from others: its right, out party and in party.
 #[derive(Clone, Copy, PartialEq, Eq)]
@@ -20,40 +21,35 @@ pub struct PairKey {
     pub into: u32,
 }
 
-// ---- the search
-
-fn pair_key(book: &Book, i: u32) -> PairKey
-    requires { i < pair_limit }
-    ensures right { result.right ≡ (pair_at book.now i).right }
-    ensures out { result.out ≡ (pair_at book.now i).out }
-    ensures into { result.into ≡ (pair_at book.now i).into }
-{
-    let row = cells::PAIRS.row(i);
-    PairKey {
-        right: book[row],
-        out: book[row + 1],
-        into: book[row + 2],
+impl PairKey {
+    // By the cells of a pair's row.
+    fn of_row(row: &[u32; 13]) -> Self
+        ensures right { result.right ≡ (pair_read row.now).right }
+        ensures out { result.out ≡ (pair_read row.now).out }
+        ensures into { result.into ≡ (pair_read row.now).into }
+    {
+        PairKey {
+            right: row[0],
+            out: row[1],
+            into: row[2],
+        }
     }
 }
 
-fn has_key(book: &Book, i: u32, key: PairKey) -> bool
-    requires { i < pair_limit }
-    ensures { result ≡ is_pair_of key.right key.out key.into (pair_at book.now i) }
-{
-    pair_key(book, i) == key
-}
+// ---- the search
 
 // The first pair with the key.
 pub fn standing_pair(book: &Book, key: PairKey) -> Option<u32>
     ensures { result ≡ standing_pair book.now key.right key.out key.into }
 {
-    let count = cells::PAIRS.count(book);
-    (0..count).find(|&i| has_key(book, i, key))
+    let rows = cells::PAIRS.rows(book);
+    let number = rows.iter().position(|row| PairKey::of_row(row) == key)?;
+    Some(number as u32)
 }
 
 // A new pair is needed, and the table is full.
 pub fn pairs_full(book: &Book, found: Option<u32>) -> bool
-    ensures { result ≡ (leb pair_limit (length (book_of book.now).pairs) && is_missing found) }
+    ensures { result ≡ (nat_le pair_limit (length (book_of book.now).pairs) && is_missing found) }
 {
     let None = found else {
         return false;
@@ -63,14 +59,14 @@ pub fn pairs_full(book: &Book, found: Option<u32>) -> bool
 
 // ---- the pair of a granted nomination
 
-// A new pair with no MW: its number.
+// A new pair with no MW: its number. No value carries that the table has room: it is a fact of the cells as they are before the store.
 fn open_pair(book: &mut Book, key: PairKey) -> u32
     requires { counted book.old PAIRS pair_limit < pair_limit }
     ensures { NewPair book.old key.right key.out key.into result book.new }
 {
     cells::cells_in(book);
     let row = [key.right, key.out, key.into, 0, 0, 0, 0, 0, 0, 0, 0, 0, 0];
-    stores::add_row(book, cells::PAIRS, &row)
+    stores::add_row(book, &cells::PAIRS, &row)
 }
 
 // The number of the pair that the verdict found, or of a new one.
@@ -88,20 +84,32 @@ pub fn take_pair(book: &mut Book, key: PairKey, found: Option<u32>) -> u32
 // ---- the MW of a side
 
 // Where the five MW of one side of a pair stand.
-pub fn side_at(pair: u32, side: u8) -> usize
-    requires { (pair < pair_limit) × (side ≤ 1) }
-    ensures { result ≡ PAIRS + 4 + pair * 13 + 5 * side }
+fn side_at(pair: u32, side: Side) -> usize
+    requires { pair < pair_limit }
+    ensures begins { result ≡ PAIRS + 4 + pair * 13 + 5 * side_number side }
+    ensures inside { result + 5 ≤ CELLS }
 {
-    cells::PAIRS.row(pair) + 3 + 5 * side as usize
+    let row = cells::PAIRS.row(pair);
+    match side {
+        Side::Out => row + 3,
+        Side::In => row + 8,
+    }
 }
 
-// The five MW of one side of a pair. By position: MW of 16 bits go into cells of 32, so that no slice can be copied.
-pub fn write_side(book: &mut Book, pair: u32, side: u8, mw: [u16; 5])
-    requires { (pair < pair_limit) × (side ≤ 1) }
-    ensures { book.new ≡ sets book.old (PAIRS + 4 + pair * 13 + 5 * side) mw }
+// MW of 16 bits as cells of 32.
+fn cells_of(mw: [u16; 5]) -> [u32; 5]
+    ensures { result ≡ mw }
+{
+    mw.map(u32::from)
+}
+
+// The five MW of one side of a pair.
+#[tactic(auto, using(rules::proofs::Stores::copied))]
+pub fn write_side(book: &mut Book, pair: u32, side: Side, mw: [u16; 5])
+    requires { pair < pair_limit }
+    ensures { book.new ≡ sets book.old (PAIRS + 4 + pair * 13 + 5 * side_number side) mw }
 {
     let at = side_at(pair, side);
-    for k in 0..5 {
-        book[at + k] = mw[k] as u32;
-    }
+    let cells = cells_of(mw);
+    book[at..at + cells.len()].copy_from_slice(&cells);
 }

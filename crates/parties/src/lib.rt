@@ -1,12 +1,11 @@
 // The entry of a party, with its code and the map of its access. The promise is an equation with the rules, whatever the cells hold.
 #![tactic(auto)]
 
-ghost use Rattle.std.specs.Prelude.{◌≡◌, ◌||◌, not, [], ◌∷◌, ◌++◌, ◌<◌, ltb, eqb};
+ghost use Rattle.std.specs.Prelude.{◌≡◌, ◌||◌, not, [], ◌∷◌, ◌++◌, nat_lt, ◌==◌};
 ghost use Rattle.rules.specs.Calls.{AddParty};
 ghost use Rattle.rules.specs.Codes.{is_code};
-ghost use Rattle.rules.specs.Book.{party_limit};
 ghost use Rattle.rules.specs.Setup.{code_taken};
-ghost use Rattle.cells.specs.View.{book_of, party_at};
+ghost use Rattle.cells.specs.View.{book_of, party_read};
 ghost use Rattle.answers.specs.Promises.{Judged, Answers};
 ghost use Rattle.parties.specs.Work.{same_code};
 
@@ -14,7 +13,7 @@ use cells::Book;
 use rules::{Answer, Refusal};
 
 fn party_field(code: [u8; 16], access: u8) -> bool
-    ensures { result ≡ (eqb access 0 || ltb 127 access || not (is_code code)) }
+    ensures { result ≡ (access == 0 || nat_lt 127 access || not (is_code code)) }
 {
     if access == 0 || access > 127 {
         return true;
@@ -22,25 +21,19 @@ fn party_field(code: [u8; 16], access: u8) -> bool
     !eic::is_party_code(code)
 }
 
-// By position: bytes against cells of 32 bits, which no slice compares.
-fn same_code(book: &Book, party: u32, code: [u8; 16]) -> bool
-    requires { party < party_limit }
-    ensures { result ≡ same_code code (party_at book.now party) }
+fn same_code(row: &[u32; 17], code: [u8; 16]) -> bool
+    ensures { result ≡ same_code code (party_read row.now) }
 {
-    let at = cells::PARTIES.row(party);
-    for k in 0..16 {
-        if book[at + k] != code[k] as u32 {
-            return false;
-        }
-    }
-    true
+    row.iter()
+        .zip(code.iter())
+        .all(|(cell, byte)| *cell == *byte as u32)
 }
 
 fn code_taken(book: &Book, code: [u8; 16]) -> bool
     ensures { result ≡ code_taken code (book_of book.now).parties }
 {
-    let count = cells::PARTIES.count(book);
-    (0..count).any(|k| same_code(book, k, code))
+    let rows = cells::PARTIES.rows(book);
+    rows.iter().any(|row| same_code(row, code))
 }
 
 fn party_verdict(book: &Book, code: [u8; 16], access: u8) -> Result<(), Refusal>
@@ -61,14 +54,12 @@ fn party_verdict(book: &Book, code: [u8; 16], access: u8) -> Result<(), Refusal>
     Ok(())
 }
 
-// The cells of a party: its code and its access map. By position: bytes go into cells of 32 bits.
+// The cells of a party: its code and its access map.
 fn party_row(code: [u8; 16], access: u8) -> [u32; 17]
     ensures { result ≡ code ++ (access ∷ []) }
 {
     let mut row = [0u32; 17];
-    for k in 0..16 {
-        row[k] = code[k] as u32;
-    }
+    row[..16].copy_from_slice(&code.map(|byte| byte as u32));
     row[16] = access as u32;
     row
 }
@@ -79,5 +70,5 @@ pub fn add_party(book: &mut Book, code: [u8; 16], access: u8) -> Answer
     party_verdict(book, code, access)?;
     cells::cells_in(book);
     let row = party_row(code, access);
-    Ok(stores::add_row(book, cells::PARTIES, &row))
+    Ok(stores::add_row(book, &cells::PARTIES, &row))
 }

@@ -1,11 +1,9 @@
 // The reads of capacity left, with the shortfall, and of rights. No read has a `requires`: each promise is an equation with the rules, whatever the cells hold.
 #![tactic(auto)]
 
-ghost use Rattle.std.specs.Prelude.{◌≡◌, ◌<◌};
-ghost use Rattle.rules.specs.Book.{right_limit};
-ghost use Rattle.cells.specs.View.{right_at};
+ghost use Rattle.std.specs.Prelude.{◌≡◌};
 ghost use Rattle.answers.specs.Promises.{ReadsRight};
-ghost use Rattle.reads.specs.Work.{ReadsLeft, left_in, read_of};
+ghost use Rattle.reads.specs.Work.{ReadsLeft, left_in};
 
 use answers::{Capacity, LeftRead, RightRead};
 use cells::{Book, Place};
@@ -35,32 +33,8 @@ pub fn left_of(book: &Book, capacity: Capacity, hour: Hour) -> Result<LeftRead, 
 
 // ---- rights
 
-// A right that is there.
-fn right_there(book: &Book, right: u16) -> RightRead
-    requires { right < right_limit }
-    ensures { result ≡ read_of (right_at book.now right) }
-{
-    let key = tables::right_key(book, right);
-    let at = cells::RIGHTS.row(right as u32) + 3;
-    RightRead {
-        holder: key.holder,
-        direction: key.direction,
-        session: key.session,
-        mw: [
-            book[at],
-            book[at + 1],
-            book[at + 2],
-            book[at + 3],
-            book[at + 4],
-        ],
-    }
-}
-
 pub fn right_at(book: &Book, right: u16) -> Result<RightRead, Refusal>
     ensures { ReadsRight book.now right result }
 {
-    if cells::RIGHTS.count(book) <= right as u32 {
-        return Err(Refusal::Unknown);
-    }
-    Ok(right_there(book, right))
+    answers::right_in(book, right).ok_or(Refusal::Unknown)
 }

@@ -1,6 +1,6 @@
 -- What the parts of the reader and the writer do.
 -- Assumes nothing.
-use Rattle.std.specs.Prelude.{ℕ, ◌+◌, ◌≤◌, ◌≡◌, Bool, ◌||◌, List, ltb, length, get_or}
+use Rattle.std.specs.Prelude.{ℕ, ◌+◌, ◌≤◌, ◌≡◌, Bool, ◌||◌, List, nat_lt, length, get_or}
 use Rattle.rules.specs.Records.{widths, kind_at, body, map_at, fields_in, end_in}
 use Rattle.fields.specs.Fields.{map_refused}
 use Rattle.record.specs.declared.Found.{Found}
@@ -13,7 +13,7 @@ pub record Finds (s : List ℕ) (r : Found) : Type 0 where
 
 -- the reader's tests, of what was found in bytes of a length
 abbrev pub refuses_found : Found → ℕ → Bool
-refuses_found f n = ltb n 2 || ltb n f.end || map_refused f.map f.fields.0
+refuses_found f n = nat_lt n 2 || nat_lt n f.end || map_refused f.map f.fields.0
 
 -- the length of the record of these fields, which is not large
 pub record Length (vs : List ℕ) (r : ℕ) : Type 0 where

@@ -1,7 +1,7 @@
 // Call records: a map of two bytes, then the fields whose bit stands, in bit order, each low byte first.
 #![tactic(auto)]
 
-ghost use Rattle.std.specs.Prelude.{◌≡◌, ◌||◌, not, ◌+◌, ◌≤◌, ltb, length, get_or};
+ghost use Rattle.std.specs.Prelude.{◌≡◌, ◌||◌, not, ◌+◌, ◌≤◌, nat_lt, length, get_or};
 ghost use Rattle.std.proofs.lemmas.List.Edits.{sets};
 ghost use Rattle.rules.specs.Records.{widths, kind_at, is_kind, foreign, bytes_of, body, number_at};
 ghost use Rattle.record.specs.Steps.{Finds, refuses_found, Length};
@@ -17,7 +17,7 @@ pub struct RecordRead {
     pub call: CallRecord,
 }
 
-// The map and the fields that bytes hold, and the position past the last.
+// The map and the fields that bytes hold, and the position past the last: three results, and no buffer with its length.
 #[derive(Clone, Copy)]
 struct Found {
     map: u32,
@@ -34,7 +34,8 @@ fn byte_at(bytes: &[u8], at: usize) -> u8
     bytes.get(at).copied().unwrap_or(0)
 }
 
-// The number of some bytes at a position, from the last byte down.
+// The number of some bytes at a position, from the last byte down. Bytes past the end count as 0.
+// By position: a `fold` over the bytes there was tried, and its proof didn't close.
 #[tactic(auto, using(crate::proofs::Turns::number_next, crate::proofs::Turns::number_done, crate::proofs::Turns::number_room))]
 fn number_at(bytes: &[u8], at: usize, width: usize) -> u32
     requires { (at ≤ 100) × (width ≤ 4) }
@@ -107,7 +108,7 @@ fn record_length(fields: Fields) -> usize
 
 // The kind is none, a field foreign to it is not zero, or there is too little room.
 fn writer_refuses(fields: Fields, length: usize, room: usize) -> bool
-    ensures { result ≡ (not (is_kind (get_or fields.0 0 0)) || foreign (kind_at (get_or fields.0 0 0)) 0 fields.0 || ltb room length) }
+    ensures { result ≡ (not (is_kind (get_or fields.0 0 0)) || foreign (kind_at (get_or fields.0 0 0)) 0 fields.0 || nat_lt room length) }
 {
     !fields::is_kind(fields.kind()) || fields.any_foreign(fields.kind()) || room < length
 }

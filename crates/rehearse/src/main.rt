@@ -25,72 +25,87 @@ fn reply(book: &mut Book, request: &Request) -> Reply {
     }
 }
 
-// Answers a line and prints it.
-fn answer<W: Write>(
-    out: &mut W,
-    book: &mut Book,
-    counts: &mut Counts,
-    line: &[u8],
-) -> io::Result<()> {
-    let line = rehearse_text::without_order_mark(line);
-    match rehearse_lines::read(line, counts.has_opened()) {
-        Ok(None) => rehearse_words::write_passed_on(out, line),
-        Ok(Some(request)) => {
-            let reply = reply(book, &request);
-            counts.add_answered(rehearse_words::differs(&request, reply));
-            rehearse_words::write_answered(out, line, &request, reply)
-        }
-        Err(unfit) => {
-            counts.add_not_understood();
-            rehearse_words::write_unfit(out, line, unfit)
-        }
-    }
+// Where the lines are printed and what came of that, the book, and the count of the lines.
+#[derive(Drop)]
+struct Rehearsal<'a, W> {
+    out: &'a mut W,
+    printed: io::Result<()>,
+    book: &'a mut Book,
+    counts: Counts,
 }
 
-// ---- the input
-
-// A part of the input, up to a line's end or the end of what has come.
-fn take<W: Write>(
-    out: &mut W,
-    book: &mut Book,
-    counts: &mut Counts,
-    line: &mut Line,
-    part: &[u8],
-) -> io::Result<()> {
-    let Some(last) = part.strip_suffix(b"\n") else {
-        rehearse_text::keep(line, part);
-        return Ok(());
-    };
-    rehearse_text::keep(line, last);
-    answer(out, book, counts, rehearse_text::without_return(line))?;
-    line.clear();
-    Ok(())
-}
-
-// A proved loop has to end, and nothing says that the input does: it ends after a number of turns that no run uses up.
-fn answer_all<R: Read, W: Write>(input: &mut R, out: &mut W) -> io::Result<()> {
-    let mut book = [0u32; cells::CELLS];
-    let mut counts = Counts::default();
-    let mut line = Line::new();
-    let mut buffer = [0u8; 65536];
-    for _ in 0..u64::MAX {
-        // A read that fails ends the input.
-        let count = input.read(&mut buffer).unwrap_or(0);
-        if count == 0 {
-            break;
-        }
-        for part in buffer[..count].split_inclusive(|byte| *byte == b'\n') {
-            take(out, &mut book, &mut counts, &mut line, part)?;
+impl<W: Write> Rehearsal<'_, W> {
+    // Prints where all before it could be printed.
+    fn print<F: FnOnce(&mut W) -> io::Result<()>>(&mut self, write: F)
+        requires { F.IsAlwaysCallable write }
+    {
+        if self.printed.is_ok() {
+            self.printed = write(self.out);
         }
     }
-    // A last line may have no end.
-    if !line.is_empty() {
-        answer(out, &mut book, &mut counts, &line)?;
+
+    // Answers a line and prints it.
+    fn answer(&mut self, line: &[u8]) {
+        let line = rehearse_text::without_order_mark(line);
+        match rehearse_lines::read(line, self.counts.has_opened()) {
+            Ok(None) => self.print(|out| rehearse_words::write_passed_on(out, line)),
+            Ok(Some(request)) => {
+                let reply = reply(self.book, &request);
+                self.counts
+                    .add_answered(rehearse_words::differs(&request, reply));
+                self.print(|out| rehearse_words::write_answered(out, line, &request, reply));
+            }
+            Err(unfit) => {
+                self.counts.add_not_understood();
+                self.print(|out| rehearse_words::write_unfit(out, line, unfit));
+            }
+        }
     }
-    writeln!(out, "{counts}")
+
+    // A part of the input, up to a line's end or the end of what has come.
+    fn take(&mut self, line: &mut Line, part: &[u8]) {
+        let Some(last) = part.strip_suffix(b"\n") else {
+            rehearse_text::keep(line, part);
+            return;
+        };
+        rehearse_text::keep(line, last);
+        self.answer(rehearse_text::without_return(line));
+        line.clear();
+    }
+
+    // A proved loop has to end, and nothing says that the input does: it ends after a number of turns that no run uses up.
+    fn answer_all<R: Read>(&mut self, input: &mut R) {
+        let mut line = Line::new();
+        let mut buffer = [0u8; 65536];
+        for _ in 0..u64::MAX {
+            // A read that fails ends the input.
+            let count = input.read(&mut buffer).unwrap_or(0);
+            for part in buffer[..count].split_inclusive(|byte| *byte == b'\n') {
+                self.take(&mut line, part);
+            }
+            // Nothing more is read where a line couldn't be printed.
+            if count == 0 || self.printed.is_err() {
+                break;
+            }
+        }
+        // A last line may have no end.
+        if !line.is_empty() {
+            self.answer(&line);
+        }
+    }
 }
 
 fn main(rt: HostRuntime) {
-    // A write that fails ends it without a word.
-    let _ended = answer_all(&mut rt.reader(), &mut io::writer(&rt));
+    let mut book = [0u32; cells::CELLS];
+    let out = &mut io::writer(&rt);
+    let mut rehearsal = Rehearsal {
+        out,
+        printed: Ok(()),
+        book: &mut book,
+        counts: Counts::default(),
+    };
+    rehearsal.answer_all(&mut rt.reader());
+    // Nobody is told of a write that fails; the counts are printed in any case.
+    let counts = rehearsal.counts;
+    let _counted = writeln!(out, "{counts}");
 }

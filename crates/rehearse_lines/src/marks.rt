@@ -8,6 +8,7 @@ use std::fmt;
 
 // 1, 2 and 4 stand for a number of so many bytes, ? for MW that may be left out, * for any count of directions, @ for a party code and / for the word
 // direction or profile. A comma and a hyphen stand for themselves, a colon for itself or for no MW at all.
+// Strings and no rows of marks: they read as the lines that they match.
 pub const PATTERNS: [(Kind, &str); 11] = [
     (Open, "open 2 - 1 - 1"),
     (Call(Direction), "direction 1 to 1 , model 1"),
@@ -60,6 +61,11 @@ impl From<&'static str> for Mark {
 }
 
 impl fmt::Display for Mark {
+    ghost use Rattle.std.specs.Prelude.{Some};
+    ghost use Rattle.rehearse_lines.specs.Reasons.{mark_text};
+
+    ghost output = { λ mark. Some (mark_text mark) };
+
     fn fmt<W: fmt::Write>(&self, f: &mut fmt::Formatter<W>) -> fmt::Result {
         f.write_str(match self {
             Mark::Word(word) => word,

@@ -4,11 +4,12 @@ ghost use Rattle.std.specs.Prelude.{◌<◌, IfSome, length};
 use crate::kinds::Kind;
 use crate::marks::Mark;
 use crate::unfit::{Unfit, Wanted};
-use rehearse_numbers::{Width, digits_from, fits};
-use rehearse_text::{Numbers, ends_word, is_over, past_all, past_sign, past_word, spaces_in};
+use rehearse_numbers::{Width, fits, leading_number};
+use rehearse_text::{Numbers, ends_word, is_over, past_all, past_sign, past_word};
 
 // Its numbers in their order; the map of a profile's directions is its only number. A code that a line doesn't have is zeros.
-#[derive(Clone, Copy)]
+// A kind beside its numbers in a row: the patterns say what each number is, and a case for each kind would say it twice.
+#[derive(Drop)]
 pub struct Request {
     pub kind: Kind,
     pub given: Numbers,
@@ -21,10 +22,9 @@ pub struct Request {
 fn next_number(line: &[u8]) -> Option<(u64, &[u8])>
     ensures { IfSome result (λ next. length next.1.now < length line.now) }
 {
-    let digits = digits_from(line, spaces_in(line))?;
-    let rest = &line[digits.end..];
+    let (number, rest) = leading_number(past_all(line, b' '))?;
     if ends_word(rest) {
-        Some((digits.value, rest))
+        Some((number, rest))
     } else {
         None
     }
@@ -33,8 +33,8 @@ fn next_number(line: &[u8]) -> Option<(u64, &[u8])>
 // The digits of the number that stands next, without zeros before them.
 fn next_digits(line: &[u8]) -> &[u8] {
     let text = past_all(past_all(line, b' '), b'0');
-    match digits_from(text, 0) {
-        Some(digits) => &text[..digits.end],
+    match leading_number(text) {
+        Some((_, rest)) => &text[..text.len() - rest.len()],
         None => &[],
     }
 }
@@ -88,7 +88,7 @@ impl Request {
         if !fits(number, width) {
             return Err(Unfit::TooLarge(next_digits(line)));
         }
-        self.given = self.given.and(number);
+        self.given.add(number);
         Ok(Some(rest))
     }
 
@@ -103,7 +103,7 @@ impl Request {
             map |= 1u64 << direction;
             rest = after;
         }
-        self.given = Numbers::NONE.and(map);
+        self.given = Numbers::from([map]);
         Ok(at_end_of_call(rest))
     }
 
@@ -145,12 +145,12 @@ impl Request {
 // The numbers expected, if there are any, and the line's end.
 fn numbers_expected(line: &[u8]) -> Result<Numbers, Unfit<'_>> {
     if is_over(line) {
-        return Ok(Numbers::NONE);
+        return Ok(Numbers::default());
     }
     let mut rest = past_equals(line).ok_or(Unfit::Expects(Wanted::LineEnd))?;
-    let mut expected = Numbers::NONE;
+    let mut expected = Numbers::default();
     while let Some((number, after)) = next_number(rest) {
-        expected = expected.and(number);
+        expected.add(number);
         rest = after;
     }
     if expected.is_empty() || !is_over(rest) {
@@ -163,9 +163,9 @@ fn numbers_expected(line: &[u8]) -> Result<Numbers, Unfit<'_>> {
 pub fn matched<'a>(kind: Kind, marks: &'static str, line: &'a [u8]) -> Result<Request, Unfit<'a>> {
     let mut request = Request {
         kind,
-        given: Numbers::NONE,
+        given: Numbers::default(),
         code: [0; 16],
-        expected: Numbers::NONE,
+        expected: Numbers::default(),
     };
     let mut rest = line;
     for text in marks.split(' ') {

@@ -23,6 +23,11 @@ pub enum Wanted {
 }
 
 impl fmt::Display for Wanted {
+    ghost use Rattle.std.specs.Prelude.{Some};
+    ghost use Rattle.rehearse_lines.specs.Reasons.{wanted_text};
+
+    ghost output = { λ wanted. Some (wanted_text wanted) };
+
     fn fmt<W: fmt::Write>(&self, f: &mut fmt::Formatter<W>) -> fmt::Result {
         match self {
             Wanted::FirstWord => f.write_str(
@@ -39,12 +44,18 @@ impl fmt::Display for Wanted {
 const SHOWN: usize = 20;
 
 impl fmt::Display for Unfit<'_> {
+    ghost use Rattle.std.specs.Prelude.{Some};
+    ghost use Rattle.rehearse_lines.specs.Reasons.{unfit_text};
+
+    ghost output = { λ unfit. Some (unfit_text unfit) };
+
     fn fmt<W: fmt::Write>(&self, f: &mut fmt::Formatter<W>) -> fmt::Result {
         match self {
             Unfit::TooLong => f.write_str("too long: a line has at most 200 bytes"),
             Unfit::TooLarge(digits) => {
                 f.write_str("too large: ")?;
-                for digit in digits.iter().take(SHOWN) {
+                let shown = digits.get(..SHOWN).unwrap_or(digits);
+                for digit in shown {
                     f.write_char(char::from(*digit))?;
                 }
                 if SHOWN < digits.len() {

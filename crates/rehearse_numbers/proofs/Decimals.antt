@@ -37,11 +37,11 @@ folded v (b ∷ bs) h =
         let one : 1 + prefix_len is_ascii_digit bs ≡ suc (prefix_len is_ascii_digit bs) = omega arith in rw one e
     go false e = h
 
--- so many digits stand at a position of a line, and this number was taken from them
-pub read_at : (line rest : List ℕ) (from value count : ℕ) → rest ≡ drop from line → count ≡ digits_in rest
-    → value ≡ fold (λ n b. capped (n * 10 + (b - 48))) 0 (take count rest) → Read line from value (from + count)
-read_at line rest from value count r c v =
-    let e = folded 0 rest refl in
+-- the number that the digits at the front were taken for
+pub read_front : (text digits rest : List ℕ) (value count : ℕ) → count ≡ digits_in text → digits ≡ take count text → rest ≡ drop count text
+    → value ≡ fold (λ n b. capped (n * 10 + (b - 48))) 0 digits → Read text value rest
+read_front text digits rest value count c d r v =
+    let e = folded 0 text refl in
     record {
       number = cc;
       past = cc;

@@ -17,7 +17,7 @@ digits_in bs = prefix_len is_ascii_digit bs
 abbrev pub capped : ℕ → ℕ
 capped n = if nat_lt n 4294967296 then n else 4294967296
 
--- the number that stands in a line from a position on, and the position past its digits
-pub record Read (line : List ℕ) (from value end : ℕ) : Type 0 where
-  pub number : value ≡ capped (decimal_of 0 (drop from line))
-  pub past : end ≡ from + digits_in (drop from line)
+-- the number that stands at the front of a text, and what stands behind its digits
+pub record Read (text : List ℕ) (value : ℕ) (rest : List ℕ) : Type 0 where
+  pub number : value ≡ capped (decimal_of 0 text)
+  pub past : rest ≡ drop (digits_in text) text

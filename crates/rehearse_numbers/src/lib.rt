@@ -3,20 +3,13 @@
 
 mod fields;
 
-ghost use Rattle.std.specs.Prelude.{◌≡◌, ◌+◌, ◌-◌, ◌*◌, ◌<◌, ◌≤◌, ◌↔◌, IsNone, IfSome, length, drop, fold};
+ghost use Rattle.std.specs.Prelude.{◌≡◌, ◌+◌, ◌-◌, ◌*◌, ◌<◌, ◌≤◌, ◌↔◌, IsNone, IfSome, length, fold};
 ghost use Rattle.rehearse_numbers.specs.Decimal.{Read, digits_in, capped};
 
 pub use fields::{Field, Width, fits, kept};
 
 // 2^32, which stands for any number that is as large or larger.
 const CAP: u64 = 4294967296;
-
-// A number, and the position past its digits.
-#[derive(Clone, Copy)]
-pub struct Digits {
-    pub value: u64,
-    pub end: usize,
-}
 
 // A number with one more digit behind it.
 fn and_digit(number: u64, digit: u8) -> u64
@@ -44,19 +37,17 @@ fn number_of(digits: &[u8]) -> u64
         .fold(0, |number, digit| and_digit(number, *digit))
 }
 
-// The number that the digits from here on mean; none where no digit stands here.
-pub fn digits_from(line: &[u8], from: usize) -> Option<Digits>
-    ensures none { IsNone result ↔ (digits_in (drop from line.now) ≡ 0) }
-    ensures number { IfSome result (λ digits. Read line.now from digits.value digits.end) }
-    ensures within { IfSome result (λ digits. (from < digits.end) × (digits.end ≤ length line.now)) }
+// The number that the digits at the front mean, and what stands behind them; none where no digit stands there.
+#[tactic(auto, using(crate::proofs::Decimals::read_front))]
+pub fn leading_number(text: &[u8]) -> Option<(u64, &[u8])>
+    ensures none { IsNone result ↔ (digits_in text.now ≡ 0) }
+    ensures number { IfSome result (λ read. Read text.now read.0 read.1.now) }
+    ensures shorter { IfSome result (λ read. length read.1.now < length text.now) }
 {
-    let rest = line.get(from..)?;
-    let count = digits_in(rest);
+    let count = digits_in(text);
     if count == 0 {
         return None;
     }
-    Some(Digits {
-        value: number_of(&rest[..count]),
-        end: from + count,
-    })
+    let (digits, rest) = text.split_at(count);
+    Some((number_of(digits), rest))
 }

@@ -1,1 +1,2 @@
 pub mod LineReads
+pub mod Rows

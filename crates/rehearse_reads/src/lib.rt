@@ -2,7 +2,9 @@
 #![tactic(auto)]
 
 ghost use Rattle.std.specs.Prelude.{◌≡◌};
+ghost use Rattle.rules.specs.Said.{said_refusal};
 ghost use Rattle.rehearse_reads.specs.LineReads.{ReadsLine};
+ghost use Rattle.rehearse_reads.specs.Rows.{of_call, of_left, of_right, of_confirmed, numbers_of};
 
 use answers::{LeftRead, RightRead};
 use cells::Book;
@@ -46,7 +48,9 @@ pub fn read(book: &Book, kind: ReadKind, given: [u64; 10]) -> Reply
 
 // ---- the numbers of a reply
 
-fn of_call(answer: Answer) -> Numbers {
+fn of_call(answer: Answer) -> Numbers
+    ensures { result.0.items ≡ of_call answer }
+{
     let said = daybook::numbers(answer);
     Numbers::from([
         u64::from(said.number),
@@ -56,43 +60,72 @@ fn of_call(answer: Answer) -> Numbers {
 }
 
 // The number of a refusal, which stands before zeros in a read.
-fn number_of(refusal: Refusal) -> u64 {
+fn number_of(refusal: Refusal) -> u64
+    ensures { result ≡ (said_refusal refusal).number }
+{
     u64::from(daybook::numbers(Err(refusal)).number)
 }
 
-fn and_mw(before: Numbers, mw: [u32; 5]) -> Numbers {
-    mw.iter()
-        .fold(before, |numbers, each| numbers.and(u64::from(*each)))
+fn of_left(read: Result<LeftRead, Refusal>) -> Numbers
+    ensures { result.0.items ≡ of_left read }
+{
+    match read {
+        Ok(read) => Numbers::from([0, u64::from(read.left), u64::from(read.shortfall)]),
+        Err(refusal) => Numbers::from([number_of(refusal), 0, 0]),
+    }
 }
 
-fn of_left(read: LeftRead) -> Numbers {
-    Numbers::from([0, u64::from(read.left), u64::from(read.shortfall)])
+fn of_right(read: Result<RightRead, Refusal>) -> Numbers
+    ensures { result.0.items ≡ of_right read }
+{
+    match read {
+        Ok(read) => {
+            let [first, second, third, fourth, fifth] = read.mw;
+            Numbers::from([
+                0,
+                u64::from(read.holder),
+                u64::from(read.direction),
+                u64::from(read.session.0),
+                u64::from(first),
+                u64::from(second),
+                u64::from(third),
+                u64::from(fourth),
+                u64::from(fifth),
+            ])
+        }
+        Err(refusal) => Numbers::from([number_of(refusal), 0, 0, 0, 0, 0, 0, 0, 0]),
+    }
 }
 
-fn of_right(read: RightRead) -> Numbers {
-    let row = Numbers::from([
-        0,
-        u64::from(read.holder),
-        u64::from(read.direction),
-        u64::from(read.session.0),
-    ]);
-    and_mw(row, read.mw)
+fn of_confirmed(read: Result<[u32; 5], Refusal>) -> Numbers
+    ensures { result.0.items ≡ of_confirmed read }
+{
+    match read {
+        Ok(mw) => {
+            let [first, second, third, fourth, fifth] = mw;
+            Numbers::from([
+                0,
+                u64::from(first),
+                u64::from(second),
+                u64::from(third),
+                u64::from(fourth),
+                u64::from(fifth),
+            ])
+        }
+        Err(refusal) => Numbers::from([number_of(refusal), 0, 0, 0, 0, 0]),
+    }
 }
 
 impl Reply {
     // 0 for granted or the number of the refusal, and what it names.
-    pub fn numbers(self) -> Numbers {
+    pub fn numbers(self) -> Numbers
+        ensures { result.0.items ≡ numbers_of self }
+    {
         match self {
-            Reply::Opening(answer, _) => of_call(answer),
-            Reply::Call(_, answer) => of_call(answer),
-            Reply::Left(Ok(read)) => of_left(read),
-            Reply::Left(Err(refusal)) => Numbers::from([number_of(refusal), 0, 0]),
-            Reply::Right(Ok(read)) => of_right(read),
-            Reply::Right(Err(refusal)) => {
-                Numbers::from([number_of(refusal), 0, 0, 0, 0, 0, 0, 0, 0])
-            }
-            Reply::Confirmed(Ok(mw)) => and_mw(Numbers::from([0]), mw),
-            Reply::Confirmed(Err(refusal)) => { Numbers::from([number_of(refusal), 0, 0, 0, 0, 0]) }
+            Reply::Opening(answer, _) | Reply::Call(_, answer) => of_call(answer),
+            Reply::Left(read) => of_left(read),
+            Reply::Right(read) => of_right(read),
+            Reply::Confirmed(read) => of_confirmed(read),
         }
     }
 }

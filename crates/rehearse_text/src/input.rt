@@ -1,5 +1,5 @@
 // A line as it comes.
-ghost use Rattle.std.specs.Prelude.{◌≡◌, ◌-◌, ◌++◌, take};
+ghost use Rattle.std.specs.Prelude.{◌≡◌, ◌≢◌, ◌-◌, ◌<◌, ◌≤◌, List, ℕ, [], ◌∷◌, ◌++◌, length, take};
 ghost use Rattle.arrayvec.specs.ArrayVec.{array_vec_len};
 
 use arrayvec::ArrayVec;
@@ -23,12 +23,19 @@ pub fn keep(line: &mut Line, part: &[u8])
 }
 
 // CR before LF belongs to the line's end.
-pub fn without_return(line: &[u8]) -> &[u8] {
+pub fn without_return(line: &[u8]) -> &[u8]
+    ensures cut { (front : List ℕ) → line.now ≡ front ++ 13 ∷ [] → result.now ≡ front }
+    ensures whole { ((front : List ℕ) → line.now ≢ front ++ 13 ∷ []) → result.now ≡ line.now }
+{
     line.strip_suffix(b"\r").unwrap_or(line)
 }
 
 // The byte order mark with which some editors begin a file of UTF-8 is no part of the line.
-pub fn without_order_mark(line: &[u8]) -> &[u8] {
+pub fn without_order_mark(line: &[u8]) -> &[u8]
+    ensures marked { length line.now ≤ LONGEST → (rest : List ℕ) → line.now ≡ 239 ∷ 187 ∷ 191 ∷ rest → result.now ≡ rest }
+    ensures unmarked { ((rest : List ℕ) → line.now ≢ 239 ∷ 187 ∷ 191 ∷ rest) → result.now ≡ line.now }
+    ensures too_long { LONGEST < length line.now → result.now ≡ line.now }
+{
     if LONGEST < line.len() {
         return line;
     }

@@ -1,5 +1,5 @@
 // What stands next in a line.
-ghost use Rattle.std.specs.Prelude.{◌≡◌, ◌==◌, ◌≤◌, ◌∷◌, IfSome, length, drop, true};
+ghost use Rattle.std.specs.Prelude.{◌≡◌, ◌≢◌, ◌==◌, ◌≤◌, ◌∷◌, ◌++◌, ℕ, List, IfSome, IfNone, length, drop, true, false};
 ghost use Rattle.std.specs.List.{prefix_len};
 ghost use Rattle.rehearse_text.specs.Words.{is_at_break};
 
@@ -41,7 +41,9 @@ pub fn ends_word(rest: &[u8]) -> bool
 
 // Past this word, where it is the next.
 pub fn past_word<'a>(text: &'a [u8], word: &[u8]) -> Option<&'a [u8]>
-    ensures { IfSome result (λ rest. is_at_break rest.now ≡ true) }
+    ensures word { IfSome result (λ rest. drop (prefix_len (λ b. b == 32) text.now) text.now ≡ word.now ++ rest.now) }
+    ensures ends { IfSome result (λ rest. is_at_break rest.now ≡ true) }
+    ensures none { IfNone result ((rest : List ℕ) → drop (prefix_len (λ b. b == 32) text.now) text.now ≡ word.now ++ rest → is_at_break rest ≡ false) }
 {
     let rest = past_all(text, b' ').strip_prefix(word)?;
     if ends_word(rest) { Some(rest) } else { None }
@@ -49,7 +51,8 @@ pub fn past_word<'a>(text: &'a [u8], word: &[u8]) -> Option<&'a [u8]>
 
 // Past this sign, where it stands right here.
 pub fn past_sign(text: &[u8], sign: u8) -> Option<&[u8]>
-    ensures { IfSome result (λ rest. text.now ≡ sign ∷ rest.now) }
+    ensures sign { IfSome result (λ rest. text.now ≡ sign ∷ rest.now) }
+    ensures none { IfNone result ((rest : List ℕ) → text.now ≢ sign ∷ rest) }
 {
     text.strip_prefix(&[sign])
 }

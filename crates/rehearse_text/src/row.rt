@@ -1,75 +1,78 @@
 // Numbers in a row.
-ghost use Rattle.std.specs.Prelude.{◌≡◌, ◌==◌, ◌+◌, ◌<◌, ◌≤◌, slice_set};
+ghost use Rattle.std.specs.Prelude.{◌≡◌, ◌==◌, ◌-◌, ◌<◌, [], ◌∷◌, ◌++◌, replicate, take};
+ghost use Rattle.arrayvec.specs.ArrayVec.{array_vec_len};
 
+use arrayvec::ArrayVec;
 use std::fmt;
 
 // How many numbers of a row are kept.
 pub const MOST: usize = 10;
 
-// The first ten numbers; those that are left out are 0. It is an array with its count, and no Vec, since a call takes all ten, and a Vec could run out of memory.
-#[derive(Clone, Copy, PartialEq, Eq)]
-pub struct Numbers {
-    count: usize,
-    values: [u64; MOST],
-}
+// The first ten numbers.
+#[derive(Default, PartialEq, Eq, Drop)]
+pub struct Numbers(ArrayVec<u64, MOST>);
 
 impl Numbers {
-    pub const NONE: Numbers = Numbers {
-        count: 0,
-        values: [0; MOST],
-    };
-
-    // The same row with one number more, where there is room.
-    pub fn and(self, value: u64) -> Numbers
-        ensures added { self.count < MOST → result ≡ record { count = self.count + 1; values = slice_set self.values self.count value } }
-        ensures full { MOST ≤ self.count → result ≡ self }
+    // One number more, where there is room.
+    pub fn add(&mut self, value: u64)
+        ensures added { array_vec_len self.old.0 < MOST → self.new.0.items ≡ self.old.0.items ++ value ∷ [] }
+        ensures full { array_vec_len self.old.0 ≡ MOST → self.new ≡ self.old }
     {
-        if MOST <= self.count {
-            return self;
-        }
-        let mut values = self.values;
-        values[self.count] = value;
-        Numbers {
-            count: self.count + 1,
-            values,
+        if !self.0.is_full() {
+            self.0.push(value);
         }
     }
 
-    // All ten.
-    pub fn values(self) -> [u64; MOST]
-        ensures { result ≡ self.values }
+    // All ten; those that are left out are 0.
+    pub fn values(&self) -> [u64; MOST]
+        ensures { result ≡ self.now.0.items ++ replicate (MOST - array_vec_len self.now.0) 0 }
     {
-        self.values
+        let mut values = [0; MOST];
+        values[..self.0.len()].copy_from_slice(&self.0);
+        values
     }
 
-    pub fn count(self) -> usize
-        ensures { result ≡ self.count }
+    pub fn count(&self) -> usize
+        ensures { result ≡ array_vec_len self.now.0 }
     {
-        self.count
+        self.0.len()
     }
 
-    pub fn is_empty(self) -> bool
-        ensures { result ≡ (self.count == 0) }
+    pub fn is_empty(&self) -> bool
+        ensures { result ≡ (array_vec_len self.now.0 == 0) }
     {
-        self.count == 0
+        self.0.is_empty()
     }
 }
 
 impl<const N: usize> From<[u64; N]> for Numbers {
+    ghost use Rattle.rehearse_text.specs.declared.row.TheConstants.{MOST};
+
+    ghost from_gives = { λ row numbers. numbers.0.items ≡ take MOST row };
+
     fn from(row: [u64; N]) -> Numbers {
-        row.iter()
-            .fold(Numbers::NONE, |numbers, value| numbers.and(*value))
+        let row = &row[..];
+        let kept = row.get(..MOST).unwrap_or(row);
+        let mut numbers = ArrayVec::new();
+        numbers.try_extend_from_slice(kept).unwrap();
+        Numbers(numbers)
     }
 }
 
 // With a space between two of them.
 impl fmt::Display for Numbers {
+    ghost use Rattle.std.specs.Prelude.{Some};
+    ghost use Rattle.rehearse_text.specs.Rows.{row_text};
+
+    ghost output = { λ numbers. Some (row_text numbers.0.items) };
+
     fn fmt<W: fmt::Write>(&self, f: &mut fmt::Formatter<W>) -> fmt::Result {
-        for (place, value) in self.values.iter().take(self.count).enumerate() {
-            if 0 < place {
-                f.write_str(" ")?;
-            }
-            write!(f, "{value}")?;
+        let [first, rest @ ..] = self.0.as_slice() else {
+            return Ok(());
+        };
+        write!(f, "{first}")?;
+        for value in rest {
+            write!(f, " {value}")?;
         }
         Ok(())
     }

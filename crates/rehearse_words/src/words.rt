@@ -1,4 +1,7 @@
 // Replies in words.
+ghost use Rattle.std.specs.Prelude.{OnOk};
+ghost use Rattle.rehearse_words.specs.Texts.{WritesText};
+
 use answers::RightRead;
 use day::Day;
 use rehearse_lines::CallKind;
@@ -23,14 +26,17 @@ fn weekday_of(number: u32) -> &'static str {
 
 // The hours of the session, from 1, whose marks stand.
 fn hours_of(marks: u32) -> Numbers {
-    (0..5u32).filter(|hour| (marks >> *hour) % 2 == 1).fold(
-        Numbers::NONE,
-        |hours, hour| hours.and(u64::from(hour) + 1),
-    )
+    let mut hours = Numbers::default();
+    for hour in (0..5u32).filter(|hour| (marks >> *hour) % 2 == 1) {
+        hours.add(u64::from(hour) + 1);
+    }
+    hours
 }
 
 // A nomination is granted above the right too, which is said of each such hour.
-fn write_nominated<W: Write>(out: &mut W, marks: u32) -> io::Result<()> {
+fn write_nominated<W: Write>(out: &mut W, marks: u32) -> io::Result<()>
+    ensures { OnOk result (WritesText (W.contents out.old) (W.contents out.new)) }
+{
     let hours = hours_of(marks);
     match hours.count() {
         0 => out.write_all(b"granted"),
@@ -46,7 +52,9 @@ fn write_nominated<W: Write>(out: &mut W, marks: u32) -> io::Result<()> {
 }
 
 // A granted call, by its detail.
-fn write_granted<W: Write>(out: &mut W, kind: CallKind, detail: u32) -> io::Result<()> {
+fn write_granted<W: Write>(out: &mut W, kind: CallKind, detail: u32) -> io::Result<()>
+    ensures { OnOk result (WritesText (W.contents out.old) (W.contents out.new)) }
+{
     match kind {
         CallKind::Direction => write!(out, "granted: direction {detail}"),
         CallKind::Profile => write!(out, "granted: profile {detail}"),
@@ -59,13 +67,17 @@ fn write_granted<W: Write>(out: &mut W, kind: CallKind, detail: u32) -> io::Resu
     }
 }
 
-fn write_opened<W: Write>(out: &mut W, day: Day) -> io::Result<()> {
+fn write_opened<W: Write>(out: &mut W, day: Day) -> io::Result<()>
+    ensures { OnOk result (WritesText (W.contents out.old) (W.contents out.new)) }
+{
     let weekday = weekday_of(day.weekday);
     let hours = day.hours;
     write!(out, "granted: {weekday}, {hours} hours")
 }
 
-fn write_left<W: Write>(out: &mut W, left: u32, shortfall: u32) -> io::Result<()> {
+fn write_left<W: Write>(out: &mut W, left: u32, shortfall: u32) -> io::Result<()>
+    ensures { OnOk result (WritesText (W.contents out.old) (W.contents out.new)) }
+{
     write!(out, "{left} MW left")?;
     if shortfall != 0 {
         write!(out, ", shortfall {shortfall} MW")?;
@@ -77,7 +89,9 @@ fn row_of(mw: [u32; 5]) -> Numbers {
     Numbers::from(mw.map(u64::from))
 }
 
-fn write_right<W: Write>(out: &mut W, read: RightRead) -> io::Result<()> {
+fn write_right<W: Write>(out: &mut W, read: RightRead) -> io::Result<()>
+    ensures { OnOk result (WritesText (W.contents out.old) (W.contents out.new)) }
+{
     let holder = read.holder;
     let direction = read.direction;
     let session = read.session.0;
@@ -88,19 +102,25 @@ fn write_right<W: Write>(out: &mut W, read: RightRead) -> io::Result<()> {
     )
 }
 
-fn write_confirmed<W: Write>(out: &mut W, mw: [u32; 5]) -> io::Result<()> {
+fn write_confirmed<W: Write>(out: &mut W, mw: [u32; 5]) -> io::Result<()>
+    ensures { OnOk result (WritesText (W.contents out.old) (W.contents out.new)) }
+{
     let mw = row_of(mw);
     write!(out, "{mw} MW confirmed")
 }
 
-fn write_short<W: Write>(out: &mut W, hour: u8, capacity: CapacityOf) -> io::Result<()> {
+fn write_short<W: Write>(out: &mut W, hour: u8, capacity: CapacityOf) -> io::Result<()>
+    ensures { OnOk result (WritesText (W.contents out.old) (W.contents out.new)) }
+{
     match capacity {
         CapacityOf::Direction => write!(out, "short: hour {hour}, direction"),
         CapacityOf::Profile(profile) => write!(out, "short: hour {hour}, profile {profile}"),
     }
 }
 
-fn write_refused<W: Write>(out: &mut W, refusal: Refusal) -> io::Result<()> {
+fn write_refused<W: Write>(out: &mut W, refusal: Refusal) -> io::Result<()>
+    ensures { OnOk result (WritesText (W.contents out.old) (W.contents out.new)) }
+{
     let word = match refusal {
         Refusal::Record => "record",
         Refusal::Date => "date",
@@ -121,7 +141,9 @@ fn write_refused<W: Write>(out: &mut W, refusal: Refusal) -> io::Result<()> {
     out.write_all(word.as_bytes())
 }
 
-pub fn write_reply<W: Write>(out: &mut W, reply: Reply) -> io::Result<()> {
+pub fn write_reply<W: Write>(out: &mut W, reply: Reply) -> io::Result<()>
+    ensures { OnOk result (WritesText (W.contents out.old) (W.contents out.new)) }
+{
     match reply {
         Reply::Opening(Ok(_), day) => write_opened(out, day),
         Reply::Opening(Err(refusal), _) => write_refused(out, refusal),

@@ -1,11 +1,12 @@
 -- The search for a standing right is the rules' search, a bid's entry is full where 13 applies, and its right, raised or new, is the right of the rules.
 -- Assumes nothing.
 use Rattle.std.specs.Prelude.{Option, Some, None, Result, Ok, Err}
+use Rattle.std.specs.List.{position}
 use Rattle.rules.specs.declared.Refusal.{Refusal}
 use Rattle.rules.specs.declared.Refusal.TheVariants.{Full}
 use Prim.Native.Nat.{ℕ, ◌+◌, ◌*◌, ◌≤◌, ◌<◌}
 use mathlib.Core.Path.{◌≡◌, refl, sym, ap, ◌∙◌}
-use mathlib.Core.Bool.{Bool, true, false, cond, ◌||◌, ◌&&◌, not, true≢false}
+use mathlib.Core.Bool.{Bool, true, false, cond, ◌||◌, ◌&&◌, not}
 use mathlib.Core.List.{List, [], ◌∷◌, ◌++◌}
 use native.Mathlib.Omega.{arith}
 use lib.Dec.{leb, ltb, eqb}
@@ -15,12 +16,13 @@ use Rattle.rules.specs.Basics.{no_mw}
 use Rattle.rules.specs.Book.{Book, Right, right_limit}
 use Rattle.rules.specs.Bids.{is_right_of, right_taken, added_right, with_right, right_from, right_number}
 use Rattle.cells.specs.Layout.{CELLS, RIGHTS}
-use Rattle.cells.specs.View.{counted, right_at, rights_in, book_of}
+use Rattle.cells.specs.View.{counted, rows_in, right_read, book_of}
 use Rattle.stores.specs.Bids.{added_five}
 use Rattle.cells.specs.Updates.{with_rights}
-use Rattle.stores.proofs.Firsts.{place_of, place_le, some_is, changed_there, changed_new, found_is, first_at, first_none, right_from_lem, right_taken_lem, raised, added_right_lem}
+use Rattle.stores.proofs.Firsts.{place_of, place_le, some_is, changed_there, changed_new, position_in, position_is, position_at, position_none, right_from_lem, right_taken_lem, raised, added_right_lem}
 use Rattle.stores.proofs.Tables.{right_more, length-row}
 use Rattle.stores.proofs.Raised.{right_raised, length-five}
+use Rattle.cells.proofs.Entries.{rights_are}
 use Rattle.cells.proofs.Views.{right_count, right_at_lem}
 use Rattle.rights.specs.Work.{standing_right, right_for, entry_of, entry_in, Enters, NewRight, Booked}
 
@@ -29,19 +31,24 @@ use Rattle.rights.specs.Work.{standing_right, right_for, entry_of, entry_in, Ent
 abbrev place : List ℕ → ℕ → ℕ → ℕ → ℕ
 place b h d s = place_of (is_right_of h d s) (book_of b).rights
 
+-- what the library's search over the rows finds
+pub row_found : (b : List ℕ) (h d s : ℕ) {rs : List (List ℕ)} {f : Option ℕ} → rs ≡ rows_in b RIGHTS 8 right_limit → f ≡ position (λ row. is_right_of h d s (right_read row)) rs → f ≡ standing_right b h d s
+unfolding standing_right
+row_found b h d s {rs} e q = q ∙ position_in (is_right_of h d s) right_read rs ∙ rw (e, rights_are b) refl
+
 -- a standing right was found, or none
-found_at : (b : List ℕ) (h d s i : ℕ) → standing_right b h d s ≡ Some i → (i ≡ place b h d s) × (i < counted b RIGHTS right_limit)
-unfolding standing_right book_of rights_in
-found_at b h d s i e = first_at (is_right_of h d s) (right_at b) (counted b RIGHTS right_limit) i e
+pub found_at : (b : List ℕ) (h d s i : ℕ) → standing_right b h d s ≡ Some i → (i ≡ place b h d s) × (i < counted b RIGHTS right_limit)
+unfolding standing_right
+found_at b h d s i e = rw (← right_count b) (position_at (is_right_of h d s) (book_of b).rights i e)
 
 found_none : (b : List ℕ) (h d s : ℕ) → standing_right b h d s ≡ None → length (book_of b).rights ≤ place b h d s
-unfolding standing_right book_of rights_in
-found_none b h d s e = rw (right_count b) (first_none (is_right_of h d s) (right_at b) (counted b RIGHTS right_limit) e)
+unfolding standing_right
+found_none b h d s e = position_none (is_right_of h d s) (book_of b).rights e
 
 -- it depends on the rights alone
 standing_is : (b : List ℕ) (h d s : ℕ) → standing_right b h d s ≡ cond (ltb (place b h d s) (length (book_of b).rights)) (Some (place b h d s)) None
-unfolding standing_right book_of rights_in
-standing_is b h d s = rw (right_count b) (found_is (is_right_of h d s) (right_at b) (counted b RIGHTS right_limit))
+unfolding standing_right
+standing_is b h d s = position_is (is_right_of h d s) (book_of b).rights
 
 taken_is : (b : List ℕ) (h d s : ℕ) → right_taken h d s (book_of b).rights ≡ ltb (place b h d s) (length (book_of b).rights)
 taken_is b h d s = right_taken_lem h d s (book_of b).rights ∙ some_is (is_right_of h d s) (book_of b).rights
@@ -167,14 +174,14 @@ module _ (b : List ℕ) (model h d s : ℕ) (mw : List ℕ) where
 
   -- where right i takes them
   module _ (i : ℕ) (e : right_for b model h d s ≡ Some i) where
-    pub raised_books : length b ≡ CELLS → length mw ≡ 5 → Booked b model h d s mw i (added_five (RIGHTS + 4 + i * 8) mw b)
+    pub raised_books : {b' : List ℕ} {at : ℕ} → length b ≡ CELLS → length mw ≡ 5 → b' ≡ added_five at mw b → at ≡ RIGHTS + 4 + i * 8 → Booked b model h d s mw i b'
     unfolding with_right right_number
-    raised_books u size =
+    raised_books u size cells_are at_is =
         let w = stands b model h d s i e in
         let p = (found_at b h d s i w.1).0 in
         let q = below b model h d s i e in
         let l : i < length (book_of b).rights = rw (right_count b) q in
-        record {
+        rw (cells_are, at_is) (record {
           count = length-five (RIGHTS + 4 + i * 8) mw b ∙ u;
           number_is = rw w.0 (p ∙ sym (right_from_lem h d s (book_of b).rights));
           book_is =
@@ -184,4 +191,4 @@ module _ (b : List ℕ) (model h d s : ℕ) (mw : List ℕ) where
               (sym (added_right_lem h d s mw (book_of b).rights
               ∙ changed_there (is_right_of h d s) (raised mw) new (record { holder = 0; direction = 0; session = 0; mw = no_mw }) (book_of b).rights (rw (← p) l)
               ∙ rw (← p) (ap (λ (x : Right). set (book_of b).rights i (raised mw x)) (right_at_lem b i q)))));
-        }
+        })

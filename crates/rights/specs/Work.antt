@@ -1,25 +1,25 @@
 -- What the searches in the table of rights find, and what a granted bid leaves there.
 -- Assumes nothing.
-use Rattle.std.specs.Prelude.{ℕ, ◌<◌, ◌≡◌, Bool, true, false, cond, List, ◌∷◌, eqb, leb, length, Option, Some, None, Result, Ok, Err}
+use Rattle.std.specs.Prelude.{ℕ, ◌<◌, ◌≡◌, if◌then◌else◌, List, ◌∷◌, ◌==◌, nat_le, length, Option, Some, None, Result, Ok, Err}
+use Rattle.std.specs.List.{position}
 use Rattle.rules.specs.Book.{right_limit}
 use Rattle.rules.specs.declared.Refusal.{Refusal}
 use Rattle.rules.specs.declared.Refusal.TheVariants.{Full}
 use Rattle.rules.specs.Bids.{is_right_of, with_right, right_number}
 use Rattle.cells.specs.Layout.{CELLS, RIGHTS}
-use Rattle.cells.specs.Search.{first_row}
-use Rattle.cells.specs.View.{counted, right_at, book_of, Cells}
+use Rattle.cells.specs.View.{counted, book_of, Cells}
 use Rattle.stores.specs.Stores.{with_row}
 use Rattle.cells.specs.Updates.{with_rights}
 
 -- ---- the standing right
 
--- the first right of a holder, direction and session
+-- 01, Offers and bids: the number of the first right of a holder, direction and session
 unfoldable pub standing_right : List ℕ → ℕ → ℕ → ℕ → Option ℕ
-standing_right b h d s = first_row (is_right_of h d s) (right_at b) (counted b RIGHTS right_limit)
+standing_right b h d s = position (is_right_of h d s) (book_of b).rights
 
 -- the right that takes the MW of a bid: none in the one-hour model
 unfoldable pub right_for : List ℕ → ℕ → ℕ → ℕ → ℕ → Option ℕ
-right_for b model h d s = cond (eqb model 1) None (standing_right b h d s)
+right_for b model h d s = if model == 1 then None else standing_right b h d s
 
 -- ---- the entry of a bid
 
@@ -30,7 +30,7 @@ entry_of None = Err Full
 
 -- in a full table the right that takes the MW; with room nothing is searched
 unfoldable pub entry_in : List ℕ → ℕ → ℕ → ℕ → ℕ → Result (Option ℕ) Refusal
-entry_in b model h d s = cond (leb right_limit (counted b RIGHTS right_limit)) (entry_of (right_for b model h d s)) (Ok None)
+entry_in b model h d s = if nat_le right_limit (counted b RIGHTS right_limit) then entry_of (right_for b model h d s) else Ok None
 
 -- the entry of a bid that 13 does not refuse
 pub record Enters (b : List ℕ) (model h d s : ℕ) (e : Option ℕ) : Type 0 where

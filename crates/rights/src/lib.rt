@@ -3,9 +3,8 @@
 
 ghost use Rattle.std.specs.Prelude.{◌≡◌, ◌<◌};
 ghost use Rattle.rules.specs.Book.{right_limit};
-ghost use Rattle.rules.specs.Bids.{is_right_of};
 ghost use Rattle.cells.specs.Layout.{RIGHTS};
-ghost use Rattle.cells.specs.View.{counted, right_at};
+ghost use Rattle.cells.specs.View.{counted};
 ghost use Rattle.rights.specs.Work.{standing_right, right_for, entry_in, Enters, NewRight, Booked};
 
 use cells::Book;
@@ -14,22 +13,17 @@ use tables::RightKey;
 
 // ---- the standing right
 
-fn has_key(book: &Book, i: u32, key: RightKey) -> bool
-    requires { i < right_limit }
-    ensures { result ≡ is_right_of key.holder key.direction key.session.0 (right_at book.now i) }
-{
-    tables::right_key(book, i as u16) == key
-}
-
 // The first right with the key.
 fn standing(book: &Book, key: RightKey) -> Option<u32>
     ensures { result ≡ standing_right book.now key.holder key.direction key.session.0 }
 {
-    let count = cells::RIGHTS.count(book);
-    (0..count).find(|&i| has_key(book, i, key))
+    let rows = cells::RIGHTS.rows(book);
+    let number = rows.iter().position(|row| RightKey::of_row(row) == key)?;
+    Some(number as u32)
 }
 
 // The right that takes the MW of a bid: none in the one-hour model.
+#[tactic(auto, using(std::proofs::lemmas::Bool::Decides::nat_tests), unfolding(crate::specs::Work::right_for))]
 fn right_for(book: &Book, model: u32, key: RightKey) -> Option<u32>
     ensures { result ≡ right_for book.now model key.holder key.direction key.session.0 }
 {
@@ -41,39 +35,40 @@ fn right_for(book: &Book, model: u32, key: RightKey) -> Option<u32>
 
 // ---- the entry of a bid
 
-// What a bid finds in the table: a full one with no right that takes its MW, such a right in a full one, or room for a right more.
-// Only a full table is searched: with room the bid may still be short.
+// What a bid finds in the table: `Ok(None)` where there is room for a right more, `Ok(Some)` with the right that takes its MW where there is none, and
+// `Err` where there is neither. Only a full table is searched: with room the bid may still be short.
 pub fn entry_of(book: &Book, model: u32, key: RightKey) -> Result<Option<u32>, Refusal>
     ensures { result ≡ entry_in book.now model key.holder key.direction key.session.0 }
 {
     if !cells::RIGHTS.is_full(book) {
         return Ok(None);
     }
-    let Some(i) = right_for(book, model, key) else {
-        return Err(Refusal::Full);
-    };
-    Ok(Some(i))
+    match right_for(book, model, key) {
+        Some(i) => Ok(Some(i)),
+        None => Err(Refusal::Full),
+    }
 }
 
 // ---- the right of a granted bid
 
-// A new right with the MW of a bid: its number.
+// A new right with the MW of a bid: its number. No value carries that the table has room: it is a fact of the cells as they are before the store.
 fn open_right(book: &mut Book, key: RightKey, mw: [u16; 5]) -> u32
     requires { counted book.old RIGHTS right_limit < right_limit }
     ensures { NewRight book.old key.holder key.direction key.session.0 mw result book.new }
 {
     cells::cells_in(book);
+    let mw = mw.map(u32::from);
     let row = [
         key.holder as u32,
         key.direction as u32,
         key.session.0 as u32,
-        mw[0] as u32,
-        mw[1] as u32,
-        mw[2] as u32,
-        mw[3] as u32,
-        mw[4] as u32,
+        mw[0],
+        mw[1],
+        mw[2],
+        mw[3],
+        mw[4],
     ];
-    stores::add_row(book, cells::RIGHTS, &row)
+    stores::add_row(book, &cells::RIGHTS, &row)
 }
 
 // The right that takes the MW: as the verdict found it, or searched now where the table has room.
@@ -81,10 +76,7 @@ fn right_by_entry(book: &Book, entry: Option<u32>, model: u32, key: RightKey) ->
     requires { Enters book.now model key.holder key.direction key.session.0 entry }
     ensures { result ≡ right_for book.now model key.holder key.direction key.session.0 }
 {
-    let Some(i) = entry else {
-        return right_for(book, model, key);
-    };
-    Some(i)
+    entry.or_else(|| right_for(book, model, key))
 }
 
 // The right of a granted bid: the standing one takes its MW, or else a new one does.

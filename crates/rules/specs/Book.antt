@@ -1,6 +1,6 @@
 -- The book of one day. A table is a list whose length is its count of entries.
 -- Assumes nothing.
-use Rattle.std.specs.Prelude.{ℕ, ◌+◌, ◌-◌, ◌*◌, Bool, false, cond, List, [], ltb, eqb, get_or, replicate}
+use Rattle.std.specs.Prelude.{ℕ, ◌+◌, ◌-◌, ◌*◌, Bool, false, if◌then◌else◌, List, [], nat_lt, ◌==◌, get_or, replicate}
 use Rattle.rules.specs.Basics.{no_mw, bit}
 
 -- the date of a day: year, month and day of the month; the book of a refused opening has none (02, S-3)
@@ -85,7 +85,7 @@ of_profile p = direction_limit + p
 
 -- the row holds direction d: it is that of the direction, or of a profile with its bit
 unfoldable pub holds : List ℕ → ℕ → ℕ → Bool
-holds maps d row = cond (ltb row direction_limit) (eqb row d) (bit (get_or maps (row - direction_limit) 0) d)
+holds maps d row = if nat_lt row direction_limit then row == d else bit (get_or maps (row - direction_limit) 0) d
 
 -- the book of a day, as opened
 unfoldable pub opened : Day → Book

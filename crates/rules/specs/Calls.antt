@@ -1,6 +1,6 @@
 -- 01, The list of demand 3: the calls that it holds, and the reply to a call.
 -- Assumes nothing.
-use Rattle.std.specs.Prelude.{ℕ, Bool, List, eqb}
+use Rattle.std.specs.Prelude.{ℕ, Bool, List, ◌==◌}
 
 -- set-up, offers, bids, nominations and matchings, with any numbers and bytes
 pub data Call : Type 0 where
@@ -32,4 +32,4 @@ abbrev pub no_details : ℕ → Reply
 no_details n = record { number = n; first = 0; second = 0 }
 
 abbrev pub is_grant : Reply → Bool
-is_grant a = eqb a.number 0
+is_grant a = a.number == 0

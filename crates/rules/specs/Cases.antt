@@ -1,6 +1,6 @@
 -- 01, Cases: those marked M, and those of 02, as one table of what the definitions compute and what the papers say. Yes is 1 and no is 0.
 -- Assumes nothing.
-use Rattle.std.specs.Prelude.{ℕ, ◌+◌, ◌-◌, ◌%◌, ◌≡◌, Bool, cond, List, [], ◌∷◌, ◌++◌, map, get_or}
+use Rattle.std.specs.Prelude.{ℕ, ◌+◌, ◌-◌, ◌%◌, ◌≡◌, Bool, if◌then◌else◌, List, [], ◌∷◌, ◌++◌, map, get_or}
 use Rattle.rules.specs.Calendar.{days_in}
 use Rattle.rules.specs.Sessions.{first_hour, hours_in}
 use Rattle.rules.specs.Windows.{bids_close, bid_timing, nomination_timing, offer_timing, matching_timing}
@@ -27,7 +27,7 @@ AllAsSaid (c ∷ cs) = (c.computed ≡ c.said) × AllAsSaid cs
 -- ---- how results are shown as numbers
 
 abbrev yes_no : Bool → ℕ
-yes_no b = cond b 1 0
+yes_no b = if b then 1 else 0
 
 -- number and details of each reply, one after the other
 abbrev numbers_of : List Reply → List ℕ

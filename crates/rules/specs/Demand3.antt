@@ -1,7 +1,7 @@
 -- Demand 3 as one claim about a list of calls on the book that an opening returned.
 -- Left of each equation stands what the reads answer after the list, right of it what the day, the calls and their replies give.
 -- Assumes nothing.
-use Rattle.std.specs.Prelude.{ℕ, ◌+◌, ◌≤◌, ◌<◌, ◌≡◌, cond, ◌||◌, List, [], ◌∷◌, ◌++◌, eqb, leb, ltb, length, get_or}
+use Rattle.std.specs.Prelude.{ℕ, ◌+◌, ◌≤◌, ◌<◌, ◌≡◌, if◌then◌else◌, ◌||◌, List, [], ◌∷◌, ◌++◌, ◌==◌, nat_le, nat_lt, length, get_or}
 use Rattle.rules.specs.Basics.{no_mw}
 use Rattle.rules.specs.Book.{Day, Direction, Right, Book, of_profile, right, direction_limit, pair_limit, party_limit, profile_limit, right_limit}
 use Rattle.rules.specs.Calls.{Call, Bid, no_details}
@@ -15,12 +15,11 @@ use Rattle.rules.specs.History.{Key, granted_calls, grants, directions_of, profi
 -- hour is not there
 abbrev pub left_by : ℕ → ℕ → ℕ → ℕ → ℕ → ℕ → LeftReply
 left_by count n x hour left shortfall =
-    cond (leb count x || (ltb hour 1 || ltb n hour)) (record { reply = no_details 6; left = 0; shortfall = 0 })
-    (record { reply = no_details 0; left = left; shortfall = shortfall })
+    if nat_le count x || (nat_lt hour 1 || nat_lt n hour) then record { reply = no_details 6; left = 0; shortfall = 0 } else record { reply = no_details 0; left = left; shortfall = shortfall }
 
 -- right number r of these, 6 and zeros where there is none
 abbrev pub right_reply : List Right → ℕ → RightReply
-right_reply rs r = record { reply = no_details (cond (leb (length rs) r) 6 0); right = right rs r }
+right_reply rs r = record { reply = no_details (if nat_le (length rs) r then 6 else 0); right = right rs r }
 
 -- what the reads answer in hour k of the session: the confirmed MW of a pair, and of all these pairs under right r together
 abbrev pub confirmed_in : Book → ℕ → ℕ → ℕ → ℕ → ℕ
@@ -28,7 +27,7 @@ confirmed_in b k r o i = get_or (read_confirmed b r o i).mw k 0
 
 unfoldable pub confirmed_total : Book → ℕ → ℕ → List Key → ℕ
 confirmed_total b k r [] = 0
-confirmed_total b k r (x ∷ xs) = cond (eqb x.right r) (confirmed_in b k x.right x.out x.into) 0 + confirmed_total b k r xs
+confirmed_total b k r (x ∷ xs) = (if x.right == r then confirmed_in b k x.right x.out x.into else 0) + confirmed_total b k r xs
 
 -- a bid, by the granted calls before it: in each row and hour in which it takes MW, on its direction and on each profile that holds it, they give no
 -- shortfall (02, S-2), and its MW are within what they leave

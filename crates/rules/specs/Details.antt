@@ -1,6 +1,6 @@
 -- 01, the two details that go with the reply to a call.
 -- Assumes nothing.
-use Rattle.std.specs.Prelude.{ℕ, ◌-◌, cond, eqb, length, get_or}
+use Rattle.std.specs.Prelude.{ℕ, ◌-◌, if◌then◌else◌, ◌==◌, length, get_or}
 use Rattle.rules.specs.Book.{Book, place, of_profile, model_of}
 use Rattle.rules.specs.Calls.{Call, AddDirection, AddProfile, AddParty, OfferDirection, OfferProfile, Bid, Nominate, Match, Reply}
 use Rattle.rules.specs.Bids.{Shortage, nothing_short, short_at, right_number}
@@ -32,6 +32,6 @@ unfoldable pub refusal : Book → Call → ℕ → Reply
 refusal b c n =
     record {
       number = n;
-      first = cond (eqb n 15) (short_hour_of (shortage_of b c)) 0;
-      second = cond (eqb n 15) (short_capacity_of (shortage_of b c)) 0;
+      first = if n == 15 then short_hour_of (shortage_of b c) else 0;
+      second = if n == 15 then short_capacity_of (shortage_of b c) else 0;
     }

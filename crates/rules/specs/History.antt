@@ -2,7 +2,7 @@
 -- Shared with the book's effects are the session rule (`first_hour`), the hour that a bid's MW belong to (`mw_at`), the rows that hold a direction (`holds`)
 -- and, where 01 says "by the rule above", confirmed MW (`confirmed_of`). Offers, rights, pairs, sides and matchings are written down a second time.
 -- Assumes nothing.
-use Rattle.std.specs.Prelude.{ℕ, ◌+◌, ◌-◌, min, Bool, false, cond, ◌&&◌, ◌||◌, not, List, [], ◌∷◌, ◌++◌, eqb, leb, get_or, length}
+use Rattle.std.specs.Prelude.{ℕ, ◌+◌, ◌-◌, min, Bool, false, if◌then◌else◌, ◌&&◌, ◌||◌, not, List, [], ◌∷◌, ◌++◌, ◌==◌, nat_le, get_or, length}
 use Rattle.rules.specs.Basics.{mw_at, no_mw, five}
 use Rattle.rules.specs.Sessions.{first_hour}
 use Rattle.rules.specs.Book.{Direction, Right, direction, right, of_profile, holds}
@@ -14,12 +14,12 @@ use Rattle.rules.specs.Reads.{ConfirmedReply, confirmed_reply}
 unfoldable pub granted_calls : List Call → List Reply → List Call
 granted_calls [] replies = []
 granted_calls (c ∷ cs) [] = []
-granted_calls (c ∷ cs) (a ∷ rest) = cond (is_grant a) (c ∷ granted_calls cs rest) (granted_calls cs rest)
+granted_calls (c ∷ cs) (a ∷ rest) = if is_grant a then c ∷ granted_calls cs rest else granted_calls cs rest
 
 -- and their replies
 unfoldable pub grants : List Reply → List Reply
 grants [] = []
-grants (a ∷ rest) = cond (is_grant a) (a ∷ grants rest) (grants rest)
+grants (a ∷ rest) = if is_grant a then a ∷ grants rest else grants rest
 
 -- All that follows is computed from granted calls.
 -- ---- set-up: directions and profiles are those of granted set-up
@@ -59,8 +59,8 @@ unfoldable pub offer_after : ℕ → ℕ → ℕ → Call → ℕ
 offer_after row hour was (AddDirection o i m) = was
 offer_after row hour was (AddProfile map) = was
 offer_after row hour was (AddParty code access) = was
-offer_after row hour was (OfferDirection time d h mw) = cond (eqb d row && eqb h hour) mw was
-offer_after row hour was (OfferProfile time p h mw) = cond (eqb (of_profile p) row && eqb h hour) mw was
+offer_after row hour was (OfferDirection time d h mw) = if d == row && h == hour then mw else was
+offer_after row hour was (OfferProfile time p h mw) = if of_profile p == row && h == hour then mw else was
 offer_after row hour was (Bid time p d session mw) = was
 offer_after row hour was (Nominate time sender other r side mw) = was
 offer_after row hour was (Match time d session) = was
@@ -78,7 +78,7 @@ bid_mw n ds maps row hour (AddParty code access) = 0
 bid_mw n ds maps row hour (OfferDirection time d h mw) = 0
 bid_mw n ds maps row hour (OfferProfile time p h mw) = 0
 bid_mw n ds maps row hour (Bid time p d session mw) =
-    cond (holds maps d row) (mw_at (first_hour n (direction ds d).model session) mw hour) 0
+    if holds maps d row then mw_at (first_hour n (direction ds d).model session) mw hour else 0
 bid_mw n ds maps row hour (Nominate time sender other r side mw) = 0
 bid_mw n ds maps row hour (Match time d session) = 0
 
@@ -110,9 +110,7 @@ added (x ∷ xs) (y ∷ ys) = (x + y) ∷ added xs ys
 unfoldable pub rights_with : ℕ → ℕ → ℕ → ℕ → List ℕ → List Right → List Right
 rights_with model holder d session mw [] = record { holder = holder; direction = d; session = session; mw = mw } ∷ []
 rights_with model holder d session mw (x ∷ xs) =
-    cond (not (eqb model 1) && eqb x.holder holder && eqb x.direction d && eqb x.session session)
-    (record { holder = holder; direction = d; session = session; mw = added x.mw mw } ∷ xs)
-    (x ∷ rights_with model holder d session mw xs)
+    if not (model == 1) && x.holder == holder && x.direction == d && x.session == session then record { holder = holder; direction = d; session = session; mw = added x.mw mw } ∷ xs else x ∷ rights_with model holder d session mw xs
 
 -- no other call touches them
 abbrev pub rights_then : List Direction → List Right → Call → List Right
@@ -133,17 +131,17 @@ rights_from ds rs (c ∷ cs) = rights_from ds (rights_then ds rs c) cs
 unfoldable pub right_sum : ℕ → List Direction → ℕ → ℕ → List Right → ℕ
 right_sum n ds d hour [] = 0
 right_sum n ds d hour (x ∷ xs) =
-    cond (eqb d x.direction) (mw_at (first_hour n (direction ds d).model x.session) x.mw hour) 0
+    (if d == x.direction then mw_at (first_hour n (direction ds d).model x.session) x.mw hour else 0)
     + right_sum n ds d hour xs
 
 -- ---- nominations
 
 -- on side 0 the sender is the out party, on side 1 the in party
 abbrev pub out_party : ℕ → ℕ → ℕ → ℕ
-out_party sender other side = cond (eqb side 1) other sender
+out_party sender other side = if side == 1 then other else sender
 
 abbrev pub into_party : ℕ → ℕ → ℕ → ℕ
-into_party sender other side = cond (eqb side 1) sender other
+into_party sender other side = if side == 1 then sender else other
 
 -- a pair: right, out party, in party
 pub record Key : Type 0 where
@@ -152,7 +150,7 @@ pub record Key : Type 0 where
   pub into : ℕ
 
 unfoldable pub is_key : ℕ → ℕ → ℕ → Key → Bool
-is_key r o i x = eqb x.right r && eqb x.out o && eqb x.into i
+is_key r o i x = x.right == r && x.out == o && x.into == i
 
 unfoldable pub has_key : ℕ → ℕ → ℕ → List Key → Bool
 has_key r o i [] = false
@@ -160,7 +158,7 @@ has_key r o i (x ∷ xs) = is_key r o i x || has_key r o i xs
 
 -- a pair is there once a nomination for it was granted
 unfoldable pub pairs_with : ℕ → ℕ → ℕ → List Key → List Key
-pairs_with r o i ks = cond (has_key r o i ks) ks (ks ++ (record { right = r; out = o; into = i } ∷ []))
+pairs_with r o i ks = if has_key r o i ks then ks else ks ++ (record { right = r; out = o; into = i } ∷ [])
 
 abbrev pub pairs_then : List Key → Call → List Key
 pairs_then ks (AddDirection o i m) = ks
@@ -185,7 +183,7 @@ side_after r o i side was (OfferDirection time d h mw) = was
 side_after r o i side was (OfferProfile time p h mw) = was
 side_after r o i side was (Bid time p d session mw) = was
 side_after r o i side was (Nominate time sender other r' side' mw) =
-    cond (eqb r' r && eqb (out_party sender other side') o && eqb (into_party sender other side') i && eqb side' side) mw was
+    if r' == r && out_party sender other side' == o && into_party sender other side' == i && side' == side then mw else was
 side_after r o i side was (Match time d session) = was
 
 -- each side has the five MW of its last granted nomination, `was` where there is none
@@ -203,7 +201,7 @@ is_match_of d s (OfferDirection time e h mw) = false
 is_match_of d s (OfferProfile time p h mw) = false
 is_match_of d s (Bid time p e session mw) = false
 is_match_of d s (Nominate time sender other r side mw) = false
-is_match_of d s (Match time e session) = eqb e d && eqb session s
+is_match_of d s (Match time e session) = e == d && session == s
 
 -- a direction's session is matched where a matching of it was granted
 unfoldable pub was_matched : ℕ → ℕ → List Call → Bool
@@ -217,7 +215,7 @@ lower_mw cs k r o i = min (get_or (last_side r o i 0 no_mw cs) k 0) (get_or (las
 -- T: the sum of m over the pairs of right r
 unfoldable pub lower_sum : List Call → ℕ → ℕ → List Key → ℕ
 lower_sum cs k r [] = 0
-lower_sum cs k r (x ∷ xs) = cond (eqb x.right r) (lower_mw cs k x.right x.out x.into) 0 + lower_sum cs k r xs
+lower_sum cs k r (x ∷ xs) = (if x.right == r then lower_mw cs k x.right x.out x.into else 0) + lower_sum cs k r xs
 
 -- the confirmed MW of a pair follow from those rights and sides by the rule above
 abbrev pub confirmed_mw : List Right → List Call → ℕ → ℕ → ℕ → ℕ → ℕ
@@ -226,8 +224,7 @@ confirmed_mw rs cs r o i k = confirmed_of (get_or (right rs r).mw k 0) (lower_su
 -- what the read of them answers: 6 where right or pair is not there, 12 before the matching
 abbrev pub confirmed_number : List Right → List Call → ℕ → ℕ → ℕ → ℕ
 confirmed_number rs cs r o i =
-    cond (leb (length rs) r || not (has_key r o i (pairs_from [] cs))) 6
-    (cond (was_matched (right rs r).direction (right rs r).session cs) 0 12)
+    if nat_le (length rs) r || not (has_key r o i (pairs_from [] cs)) then 6 else if was_matched (right rs r).direction (right rs r).session cs then 0 else 12
 
 unfoldable pub confirmed_by : List Right → List Call → ℕ → ℕ → ℕ → ConfirmedReply
 confirmed_by rs cs r o i = confirmed_reply (confirmed_number rs cs r o i) (five (confirmed_mw rs cs r o i))

@@ -1,6 +1,6 @@
 -- 01, the reads: they change nothing, and answer what they name, or zeros where refused. Both details are 0.
 -- Assumes nothing.
-use Rattle.std.specs.Prelude.{ℕ, Bool, false, cond, ◌||◌, not, List, eqb}
+use Rattle.std.specs.Prelude.{ℕ, Bool, false, if◌then◌else◌, ◌||◌, not, List, ◌==◌}
 use Rattle.rules.specs.Basics.{no_mw, five}
 use Rattle.rules.specs.Book.{Right, Book, of_profile, right, left_at, shortfall_at}
 use Rattle.rules.specs.Calls.{Reply, no_details}
@@ -15,16 +15,16 @@ pub record LeftReply : Type 0 where
   pub shortfall : ℕ
 
 abbrev pub left_reply : ℕ → ℕ → ℕ → LeftReply
-left_reply n left shortfall = record { reply = no_details n; left = cond (eqb n 0) left 0; shortfall = cond (eqb n 0) shortfall 0 }
+left_reply n left shortfall = record { reply = no_details n; left = if n == 0 then left else 0; shortfall = if n == 0 then shortfall else 0 }
 
 unfoldable pub direction_read_refuses : Book → ℕ → ℕ → ℕ → Bool
-direction_read_refuses b d hour n = cond (eqb n 6) (direction_unknown b d || hour_unknown b hour) false
+direction_read_refuses b d hour n = if n == 6 then direction_unknown b d || hour_unknown b hour else false
 
 unfoldable pub read_direction : Book → ℕ → ℕ → LeftReply
 read_direction b d hour = left_reply (first_of (direction_read_refuses b d hour) order) (left_at b d hour) (shortfall_at b d hour)
 
 unfoldable pub profile_read_refuses : Book → ℕ → ℕ → ℕ → Bool
-profile_read_refuses b p hour n = cond (eqb n 6) (profile_unknown b p || hour_unknown b hour) false
+profile_read_refuses b p hour n = if n == 6 then profile_unknown b p || hour_unknown b hour else false
 
 unfoldable pub read_profile : Book → ℕ → ℕ → LeftReply
 read_profile b p hour = left_reply (first_of (profile_read_refuses b p hour) order) (left_at b (of_profile p) hour) (shortfall_at b (of_profile p) hour)
@@ -36,7 +36,7 @@ pub record RightReply : Type 0 where
   pub right : Right
 
 unfoldable pub right_read_refuses : Book → ℕ → ℕ → Bool
-right_read_refuses b r n = cond (eqb n 6) (right_unknown b r) false
+right_read_refuses b r n = if n == 6 then right_unknown b r else false
 
 -- what stands for a right that is not there is all zeros
 unfoldable pub read_right : Book → ℕ → RightReply
@@ -49,13 +49,12 @@ pub record ConfirmedReply : Type 0 where
   pub mw : List ℕ
 
 abbrev pub confirmed_reply : ℕ → List ℕ → ConfirmedReply
-confirmed_reply n mw = record { reply = no_details n; mw = cond (eqb n 0) mw no_mw }
+confirmed_reply n mw = record { reply = no_details n; mw = if n == 0 then mw else no_mw }
 
 -- 12: before the matching of the right's direction and session
 unfoldable pub confirmed_read_refuses : Book → ℕ → ℕ → ℕ → ℕ → Bool
 confirmed_read_refuses b r o i n =
-    cond (eqb n 6) (right_unknown b r || not (pair_taken r o i b.pairs))
-    (cond (eqb n 12) (not (is_matched b.matched (right b.rights r).direction (right b.rights r).session)) false)
+    if n == 6 then right_unknown b r || not (pair_taken r o i b.pairs) else if n == 12 then not (is_matched b.matched (right b.rights r).direction (right b.rights r).session) else false
 
 unfoldable pub read_confirmed : Book → ℕ → ℕ → ℕ → ConfirmedReply
 read_confirmed b r o i =

@@ -1,6 +1,6 @@
 -- 01, Call records: a map of two bytes, then the fields whose bit stands, in bit order. Numbers of two bytes are low byte first.
 -- Assumes nothing.
-use Rattle.std.specs.Prelude.{ℕ, zero, suc, ◌+◌, ◌*◌, ◌/◌, ◌%◌, Bool, false, cond, ◌||◌, ◌&&◌, not, List, [], ◌∷◌, ◌++◌, eqb, ltb, length, get_or, drop}
+use Rattle.std.specs.Prelude.{ℕ, zero, suc, ◌+◌, ◌*◌, ◌/◌, ◌%◌, Bool, false, if◌then◌else◌, ◌||◌, ◌&&◌, not, List, [], ◌∷◌, ◌++◌, ◌==◌, nat_lt, length, get_or, drop}
 use Rattle.rules.specs.Basics.{bit, map_of, has}
 use Rattle.rules.specs.Calls.{Reply, no_details}
 use Rattle.rules.specs.Refusals.{order, first_of}
@@ -57,11 +57,11 @@ abbrev pub kind_at : ℕ → Kind
 kind_at k = get_or kinds k no_kind
 
 abbrev pub is_kind : ℕ → Bool
-is_kind k = ltb 0 k && ltb k 6
+is_kind k = nat_lt 0 k && nat_lt k 6
 
 -- bit i stands in a record of the kind whose field i is v
 unfoldable pub stands : Kind → ℕ → ℕ → Bool
-stands k i v = has i k.always || (has i k.mws && not (eqb v 0))
+stands k i v = has i k.always || (has i k.mws && not (v == 0))
 
 -- for each field from bit i on
 unfoldable pub standing : Kind → ℕ → List ℕ → List Bool
@@ -75,7 +75,7 @@ map_for kind fs = map_of (standing (kind_at kind) 0 fs)
 -- a field foreign to the kind is not zero, from bit i on
 unfoldable pub foreign : Kind → ℕ → List ℕ → Bool
 foreign k i [] = false
-foreign k i (v ∷ vs) = (not (has i k.always || has i k.mws) && not (eqb v 0)) || foreign k (suc i) vs
+foreign k i (v ∷ vs) = (not (has i k.always || has i k.mws) && not (v == 0)) || foreign k (suc i) vs
 
 -- ---- writing
 
@@ -88,7 +88,7 @@ bytes_of (suc w) v = v % 256 ∷ bytes_of w (v / 256)
 unfoldable pub body : Kind → ℕ → List ℕ → List ℕ → List ℕ
 body k i [] vs = []
 body k i (w ∷ ws) [] = []
-body k i (w ∷ ws) (v ∷ vs) = cond (stands k i v) (bytes_of w v) [] ++ body k (suc i) ws vs
+body k i (w ∷ ws) (v ∷ vs) = (if stands k i v then bytes_of w v else []) ++ body k (suc i) ws vs
 
 -- the record of a call
 unfoldable pub record_of : CallRecord → List ℕ
@@ -97,7 +97,7 @@ record_of c = bytes_of 2 (map_for c.kind (fields_of c)) ++ body (kind_at c.kind)
 -- 1 record, for the writer: kind not 1 to 5, a field foreign to the kind not zero, buffer too short
 unfoldable pub writer_refuses : CallRecord → List ℕ → ℕ → Bool
 writer_refuses c buffer n =
-    cond (eqb n 1) (not (is_kind c.kind) || foreign (kind_at c.kind) 0 (fields_of c) || ltb (length buffer) (length (record_of c))) false
+    if n == 1 then not (is_kind c.kind) || foreign (kind_at c.kind) 0 (fields_of c) || nat_lt (length buffer) (length (record_of c)) else false
 
 pub record Written : Type 0 where
   pub reply : Reply
@@ -108,8 +108,8 @@ unfoldable pub writing : CallRecord → List ℕ → Written
 writing c buffer =
     let n : ℕ = first_of (writer_refuses c buffer) order in
     record {
-      reply = record { number = n; first = cond (eqb n 0) (length (record_of c)) 0; second = 0 };
-      buffer = cond (eqb n 0) (record_of c ++ drop (length (record_of c)) buffer) buffer;
+      reply = record { number = n; first = if n == 0 then length (record_of c) else 0; second = 0 };
+      buffer = if n == 0 then record_of c ++ drop (length (record_of c)) buffer else buffer;
     }
 
 -- ---- reading
@@ -124,12 +124,12 @@ map_at s = number_at 2 s 0
 
 -- how many bytes a field of width w takes where its bit is as given
 abbrev pub taking : ℕ → Bool → ℕ
-taking w p = cond p w 0
+taking w p = if p then w else 0
 
 -- the fields from bit i on, of which the first stands at a position; a field whose bit doesn't stand is 0
 unfoldable pub fields_at : List ℕ → ℕ → ℕ → List ℕ → ℕ → List ℕ
 fields_at [] i map s at = []
-fields_at (w ∷ ws) i map s at = cond (bit map i) (number_at w s at) 0 ∷ fields_at ws (suc i) map s (at + taking w (bit map i))
+fields_at (w ∷ ws) i map s at = (if bit map i then number_at w s at else 0) ∷ fields_at ws (suc i) map s (at + taking w (bit map i))
 
 -- the position past them
 unfoldable pub end_at : List ℕ → ℕ → ℕ → ℕ → ℕ
@@ -147,8 +147,7 @@ end_in s = end_at widths 0 (map_at s) 2
 unfoldable pub reader_refuses : List ℕ → ℕ → Bool
 reader_refuses s n =
     let kind : ℕ = get_or (fields_in s) 0 0 in
-    cond (eqb n 1)
-    (ltb (length s) 2 || ltb (length s) (end_in s) || bit (map_at s) 15 || not (is_kind kind) || not (eqb (map_at s) (map_for kind (fields_in s)))) false
+    if n == 1 then nat_lt (length s) 2 || nat_lt (length s) (end_in s) || bit (map_at s) 15 || not (is_kind kind) || not (map_at s == map_for kind (fields_in s)) else false
 
 pub record RecordReply : Type 0 where
   pub reply : Reply
@@ -165,6 +164,6 @@ reading s =
     let n : ℕ = first_of (reader_refuses s) order in
     record {
       reply = no_details n;
-      length = cond (eqb n 0) (end_in s) 0;
-      call = cond (eqb n 0) (call_of (fields_in s)) no_call;
+      length = if n == 0 then end_in s else 0;
+      call = if n == 0 then call_of (fields_in s) else no_call;
     }

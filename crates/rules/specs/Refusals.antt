@@ -1,7 +1,7 @@
 -- 01, What the book says no to: one condition for each number, and the order in which they count.
 -- A number that cannot apply to a call is false there. The opening, the reads and the records use `order` and `first_of` too.
 -- Assumes nothing.
-use Rattle.std.specs.Prelude.{ℕ, ◌^◌, Bool, true, false, cond, ◌||◌, ◌&&◌, not, List, [], ◌∷◌, leb, ltb, eqb, length, get_or, drop}
+use Rattle.std.specs.Prelude.{ℕ, ◌^◌, Bool, true, false, if◌then◌else◌, ◌||◌, ◌&&◌, not, List, [], ◌∷◌, nat_le, nat_lt, ◌==◌, length, get_or, drop}
 use Rattle.std.specs.Int.Count.{ones}
 use Rattle.rules.specs.Basics.{bit, any_above}
 use Rattle.rules.specs.Sessions.{session_there, first_hour, hours_in}
@@ -25,24 +25,24 @@ order = 1 ∷ 17 ∷ 3 ∷ 4 ∷ 5 ∷ 6 ∷ 7 ∷ 16 ∷ 8 ∷ 9 ∷ 10 ∷ 11 
 -- the numbers before n
 unfoldable pub before : ℕ → List ℕ → List ℕ
 before n [] = []
-before n (m ∷ ms) = cond (eqb m n) [] (m ∷ before n ms)
+before n (m ∷ ms) = if m == n then [] else m ∷ before n ms
 
 -- the first of the numbers whose condition holds, or 0
 unfoldable pub first_of : (ℕ → Bool) → List ℕ → ℕ
 first_of f [] = 0
-first_of f (n ∷ ns) = cond (f n) n (first_of f ns)
+first_of f (n ∷ ns) = if f n then n else first_of f ns
 
 -- ---- 3 field
 
 unfoldable pub field : Book → Call → Bool
-field b (AddDirection o i m) = ltb 6 o || ltb 6 i || eqb o i || not (eqb m 1 || eqb m 4)
-field b (AddProfile map) = ltb (ones map) 2
-field b (AddParty code access) = eqb access 0 || ltb 127 access || not (is_code code)
-field b (OfferDirection time d hour mw) = ltb latest time || ltb 9999 mw
-field b (OfferProfile time p hour mw) = ltb latest time || ltb 9999 mw
-field b (Bid time p d session mw) = ltb latest time || any_above 9999 mw
-field b (Nominate time sender other r side mw) = ltb latest time || ltb 1 side || any_above 9999 mw
-field b (Match time d session) = ltb latest time
+field b (AddDirection o i m) = nat_lt 6 o || nat_lt 6 i || o == i || not (m == 1 || m == 4)
+field b (AddProfile map) = nat_lt (ones map) 2
+field b (AddParty code access) = access == 0 || nat_lt 127 access || not (is_code code)
+field b (OfferDirection time d hour mw) = nat_lt latest time || nat_lt 9999 mw
+field b (OfferProfile time p hour mw) = nat_lt latest time || nat_lt 9999 mw
+field b (Bid time p d session mw) = nat_lt latest time || any_above 9999 mw
+field b (Nominate time sender other r side mw) = nat_lt latest time || nat_lt 1 side || any_above 9999 mw
+field b (Match time d session) = nat_lt latest time
 
 -- ---- 4 set-up shut
 
@@ -62,36 +62,36 @@ unfoldable pub clock : Book → Call → Bool
 clock b (AddDirection o i m) = false
 clock b (AddProfile map) = false
 clock b (AddParty code access) = false
-clock b (OfferDirection time d hour mw) = ltb time b.clock
-clock b (OfferProfile time p hour mw) = ltb time b.clock
-clock b (Bid time p d session mw) = ltb time b.clock
-clock b (Nominate time sender other r side mw) = ltb time b.clock
-clock b (Match time d session) = ltb time b.clock
+clock b (OfferDirection time d hour mw) = nat_lt time b.clock
+clock b (OfferProfile time p hour mw) = nat_lt time b.clock
+clock b (Bid time p d session mw) = nat_lt time b.clock
+clock b (Nominate time sender other r side mw) = nat_lt time b.clock
+clock b (Match time d session) = nat_lt time b.clock
 
 -- ---- 6 unknown
 
 abbrev pub direction_unknown : Book → ℕ → Bool
-direction_unknown b d = leb (length b.directions) d
+direction_unknown b d = nat_le (length b.directions) d
 
 abbrev pub profile_unknown : Book → ℕ → Bool
-profile_unknown b p = leb (length b.profiles) p
+profile_unknown b p = nat_le (length b.profiles) p
 
 abbrev pub party_unknown : Book → ℕ → Bool
-party_unknown b p = leb (length b.parties) p
+party_unknown b p = nat_le (length b.parties) p
 
 abbrev pub right_unknown : Book → ℕ → Bool
-right_unknown b r = leb (length b.rights) r
+right_unknown b r = nat_le (length b.rights) r
 
 abbrev pub session_unknown : Book → ℕ → ℕ → Bool
 session_unknown b d session = not (session_there b.day.hours (model_of b d) session)
 
 unfoldable pub hour_unknown : Book → ℕ → Bool
-hour_unknown b hour = ltb hour 1 || ltb b.day.hours hour
+hour_unknown b hour = nat_lt hour 1 || nat_lt b.day.hours hour
 
 -- for a profile: a bit of a direction that is not there
 unfoldable pub unknown : Book → Call → Bool
 unknown b (AddDirection o i m) = false
-unknown b (AddProfile map) = leb (2 ^ length b.directions) map
+unknown b (AddProfile map) = nat_le (2 ^ length b.directions) map
 unknown b (AddParty code access) = false
 unknown b (OfferDirection time d hour mw) = direction_unknown b d || hour_unknown b hour
 unknown b (OfferProfile time p hour mw) = profile_unknown b p || hour_unknown b hour
@@ -172,7 +172,7 @@ no_access b (Bid time p d session mw) =
 no_access b (Nominate time sender other r side mw) =
     let a : ℕ = (party b.parties sender).access in
     let x : Direction = direction b.directions (right b.rights r).direction in
-    not (bit a (cond (eqb side 0) x.out x.into))
+    not (bit a (if side == 0 then x.out else x.into))
 no_access b (Match time d session) = false
 
 -- ---- 11 owner
@@ -186,14 +186,14 @@ not_owner b (OfferProfile time p hour mw) = false
 not_owner b (Bid time p d session mw) = false
 not_owner b (Nominate time sender other r side mw) =
     let h : ℕ = (right b.rights r).holder in
-    not (eqb h sender || eqb h other)
+    not (h == sender || h == other)
 not_owner b (Match time d session) = false
 
 -- ---- 12 cycle
 
 -- the direction's session was matched
 unfoldable pub is_matched : List ℕ → ℕ → ℕ → Bool
-is_matched flags d session = eqb (get_or flags (flag d session) 0) 1
+is_matched flags d session = get_or flags (flag d session) 0 == 1
 
 unfoldable pub cycle : Book → Call → Bool
 cycle b (AddDirection o i m) = false
@@ -209,15 +209,15 @@ cycle b (Match time d session) = is_matched b.matched d session
 
 -- a four-hour bid needs a new right, and a nomination a new pair, only where none stands
 unfoldable pub full : Book → Call → Bool
-full b (AddDirection o i m) = leb direction_limit (length b.directions)
-full b (AddProfile map) = leb profile_limit (length b.profiles)
-full b (AddParty code access) = leb party_limit (length b.parties)
+full b (AddDirection o i m) = nat_le direction_limit (length b.directions)
+full b (AddProfile map) = nat_le profile_limit (length b.profiles)
+full b (AddParty code access) = nat_le party_limit (length b.parties)
 full b (OfferDirection time d hour mw) = false
 full b (OfferProfile time p hour mw) = false
 full b (Bid time p d session mw) =
-    leb right_limit (length b.rights) && (eqb (model_of b d) 1 || not (right_taken p d session b.rights))
+    nat_le right_limit (length b.rights) && (model_of b d == 1 || not (right_taken p d session b.rights))
 full b (Nominate time sender other r side mw) =
-    leb pair_limit (length b.pairs) && not (pair_taken r (out_of sender other side) (into_of sender other side) b.pairs)
+    nat_le pair_limit (length b.pairs) && not (pair_taken r (out_of sender other side) (into_of sender other side) b.pairs)
 full b (Match time d session) = false
 
 -- ---- 15 short
@@ -237,19 +237,19 @@ shortage_of b (Match time d session) = nothing_short
 -- condition number n holds; 1 and 2 never apply to these calls, and there is no 14 (02, S-2)
 unfoldable pub refuses : Book → Call → ℕ → Bool
 refuses b c n =
-    cond (eqb n 3) (field b c) (
-    cond (eqb n 4) (setup_shut b c) (
-    cond (eqb n 5) (clock b c) (
-    cond (eqb n 6) (unknown b c) (
-    cond (eqb n 7) (taken b c) (
-    cond (eqb n 16) (too_early (timing_of b c)) (
-    cond (eqb n 8) (too_late (timing_of b c)) (
-    cond (eqb n 9) (wrong_hours b c) (
-    cond (eqb n 10) (no_access b c) (
-    cond (eqb n 11) (not_owner b c) (
-    cond (eqb n 12) (cycle b c) (
-    cond (eqb n 13) (full b c) (
-    cond (eqb n 15) (is_short (shortage_of b c)) false))))))))))))
+    if n == 3 then field b c
+    else if n == 4 then setup_shut b c
+    else if n == 5 then clock b c
+    else if n == 6 then unknown b c
+    else if n == 7 then taken b c
+    else if n == 16 then too_early (timing_of b c)
+    else if n == 8 then too_late (timing_of b c)
+    else if n == 9 then wrong_hours b c
+    else if n == 10 then no_access b c
+    else if n == 11 then not_owner b c
+    else if n == 12 then cycle b c
+    else if n == 13 then full b c
+    else if n == 15 then is_short (shortage_of b c) else false
 
 -- the number of the reply: 0, or the first in the order whose condition holds
 abbrev pub number : Book → Call → ℕ

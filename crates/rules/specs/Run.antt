@@ -1,6 +1,6 @@
 -- One call on a book, and a list of calls.
 -- Assumes nothing.
-use Rattle.std.specs.Prelude.{cond, List, [], ◌∷◌, eqb}
+use Rattle.std.specs.Prelude.{if◌then◌else◌, List, [], ◌∷◌, ◌==◌}
 use Rattle.rules.specs.Book.{Book}
 use Rattle.rules.specs.Calls.{Call, Reply}
 use Rattle.rules.specs.Refusals.{number}
@@ -15,8 +15,7 @@ pub record Step : Type 0 where
 -- a refused call leaves the book as it is
 unfoldable pub applied : Book → Call → Step
 applied b c =
-    cond (eqb (number b c) 0) (record { reply = record { number = 0; first = detail b c; second = 0 }; book = effect b c })
-    (record { reply = refusal b c (number b c); book = b })
+    if number b c == 0 then record { reply = record { number = 0; first = detail b c; second = 0 }; book = effect b c } else record { reply = refusal b c (number b c); book = b }
 
 -- the replies to a list of calls, and the book after it
 pub record Run : Type 0 where

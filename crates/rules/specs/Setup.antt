@@ -1,6 +1,6 @@
 -- 01, Set-up: entries that clash with a new one.
 -- Assumes nothing.
-use Rattle.std.specs.Prelude.{ℕ, Bool, false, ◌||◌, ◌&&◌, not, List, [], ◌∷◌, eqb}
+use Rattle.std.specs.Prelude.{ℕ, Bool, false, ◌||◌, ◌&&◌, not, List, [], ◌∷◌, ◌==◌}
 use Rattle.rules.specs.Basics.{same}
 use Rattle.rules.specs.Book.{Direction, Party}
 
@@ -8,8 +8,8 @@ use Rattle.rules.specs.Book.{Direction, Party}
 unfoldable pub direction_taken : ℕ → ℕ → ℕ → List Direction → Bool
 direction_taken o i m [] = false
 direction_taken o i m (x ∷ xs) =
-    (eqb x.out o && eqb x.into i)
-    || (eqb x.out i && eqb x.into o && not (eqb x.model m))
+    (x.out == o && x.into == i)
+    || (x.out == i && x.into == o && not (x.model == m))
     || direction_taken o i m xs
 
 -- same code

@@ -3,6 +3,7 @@
 
 ghost use Rattle.std.specs.Prelude.{◌≡◌};
 ghost use Rattle.rules.specs.Basics.{bit};
+ghost use Rattle.rules.specs.Sides.{ReadsSide};
 
 // The last minute that the clock counts.
 pub const LATEST: u32 = 2999;
@@ -79,6 +80,28 @@ pub struct CallRecord {
     pub side: u8,
     pub mw: [u16; 5],
     pub hour: Hour,
+}
+
+// The side of a pair that a nomination sends: as the out party or as the in party.
+#[derive(Clone, Copy, PartialEq, Eq)]
+pub enum Side {
+    Out,
+    In,
+}
+
+// By its number in a call: any number but 0 and 1 is refused as a field.
+impl TryFrom<u8> for Side {
+    type Error = Refusal;
+
+    ghost try_from_gives = { ReadsSide };
+
+    fn try_from(number: u8) -> Result<Side, Refusal> {
+        match number {
+            0 => Ok(Side::Out),
+            1 => Ok(Side::In),
+            _ => Err(Refusal::Field),
+        }
+    }
 }
 
 // A bit of a map; past its 32 bits there are none.

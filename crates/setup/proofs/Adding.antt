@@ -2,10 +2,10 @@
 -- Assumes nothing.
 use Rattle.std.specs.Prelude.{Ok}
 use Prim.Native.Nat.{ℕ, ◌<◌}
-use mathlib.Core.Path.{◌≡◌, refl, sym, ap, subst, ◌∙◌}
+use mathlib.Core.Path.{◌≡◌, refl, sym, ap, ◌∙◌}
 use mathlib.Core.Bool.{Bool, true, false, ◌||◌}
 use mathlib.Core.List.{List, [], ◌∷◌, ◌++◌}
-use lib.Dec.{leb}
+use lib.Dec.{leb, eqb}
 use lib.ListN.{length}
 use borrow.Author.Tests.{eq-eqb, leb-false}
 use Rattle.rules.specs.Basics.{has}
@@ -13,7 +13,10 @@ use Rattle.rules.specs.Book.{Book, direction_limit, party_limit, profile_limit}
 use Rattle.rules.specs.Calls.{Call, AddDirection, AddProfile, AddParty}
 use Rattle.rules.specs.Refusals.{order, first_of, refuses, number, clock, unknown, taken, timing_of, wrong_hours, no_access, not_owner, cycle, full, shortage_of}
 use Rattle.rules.specs.Effects.{is_timed, clock_after, directions_after, profiles_after, parties_after, offered_after, granted_after, rights_after, pairs_after, matched_after, effect}
-use Rattle.rules.specs.Details.{detail}
+use Rattle.rules.specs.Details.{detail, refusal}
+use Rattle.rules.specs.Said.{said_refusal}
+use Rattle.rules.specs.declared.Refusal.{Refusal}
+use Rattle.rules.specs.declared.Refusal.TheVariants.{Field, SetupShut, Full}
 use Rattle.rules.proofs.Decisions.{is_granted, fails}
 use Rattle.cells.specs.Layout.{CELLS, DIRECTIONS, PROFILES, PARTIES}
 use Rattle.cells.specs.View.{Cells, book_of, counted}
@@ -21,8 +24,8 @@ use Rattle.stores.specs.Stores.{with_row}
 use Rattle.cells.specs.Updates.{with_directions, with_profiles, with_parties}
 use Rattle.stores.proofs.Tables.{direction_more, profile_more, party_more}
 use Rattle.cells.proofs.Views.{direction_count, profile_count, party_count}
-use Rattle.answers.specs.Promises.{Answers}
-use Rattle.answers.proofs.Laws.{Left, granted}
+use Rattle.answers.specs.Promises.{Answers, Refused}
+use Rattle.answers.proofs.Laws.{Left, pass, refuse, none_left, granted}
 
 -- ---- the numbers that can apply
 
@@ -37,6 +40,33 @@ profile_left b map = record { number_is = refl }
 pub party_left : (b code : List ℕ) (access : ℕ) → Left (book_of b) (AddParty code access) (3 ∷ 4 ∷ 7 ∷ 13 ∷ [])
 unfolding first_of order refuses clock unknown taken timing_of wrong_hours no_access not_owner cycle shortage_of
 party_left b code access = record { number_is = refl }
+
+-- ---- the tests, one after the other: the field, the end of set-up, one of the call's own, a full table
+
+module _ {b : Book} {c : Call} {n : ℕ} (l : Left b c (3 ∷ 4 ∷ n ∷ 13 ∷ [])) where
+  pub field_refused : refuses b c 3 ≡ true → Refused b c Field
+  unfolding refusal
+  field_refused e = refuse Field l e refl refl
+
+  module _ (in_field : refuses b c 3 ≡ false) where
+    pub shut_refused : refuses b c 4 ≡ true → Refused b c SetupShut
+    unfolding refusal
+    shut_refused e = refuse SetupShut (pass l in_field) e refl refl
+
+    module _ (in_setup : refuses b c 4 ≡ false) where
+      past_setup : Left b c (n ∷ 13 ∷ [])
+      past_setup = pass (pass l in_field) in_setup
+
+      pub own_refused : (r : Refusal) → refuses b c n ≡ true → eqb n 0 ≡ false → said_refusal r ≡ refusal b c n → Refused b c r
+      own_refused r = refuse r past_setup
+
+      module _ (own : refuses b c n ≡ false) where
+        pub full_refused : refuses b c 13 ≡ true → Refused b c Full
+        unfolding refusal
+        full_refused e = refuse Full (pass past_setup own) e refl refl
+
+        pub added : refuses b c 13 ≡ false → number b c ≡ 0
+        added e = none_left (pass (pass past_setup own) e)
 
 -- ---- from a verdict to the promise
 

@@ -1,20 +1,21 @@
 // Set-up: directions, profiles, and what every addition shares. Each promise is an equation with the rules, whatever the cells hold.
 #![tactic(auto)]
 
-ghost use Rattle.std.specs.Prelude.{◌≡◌, ◌||◌, not, ◌^◌, ◌<◌, ltb, leb, eqb, length};
+ghost use Rattle.std.specs.Prelude.{◌≡◌, ◌||◌, not, ◌^◌, nat_lt, nat_le, ◌==◌, length};
 ghost use Rattle.std.specs.Int.Count.{ones};
 ghost use Rattle.rules.specs.Calls.{AddDirection, AddProfile};
 ghost use Rattle.rules.specs.Setup.{direction_taken};
-ghost use Rattle.rules.specs.Book.{direction_limit};
-ghost use Rattle.cells.specs.View.{book_of, direction_at};
+ghost use Rattle.cells.specs.View.{book_of};
 ghost use Rattle.answers.specs.Promises.{Judged, Answers};
-ghost use Rattle.setup.specs.Work.{clashes, direction_of, same_operators};
+ghost use Rattle.tables.specs.Rows.{direction_of};
+ghost use Rattle.setup.specs.Work.{clashes, same_operators};
 
 use cells::Book;
 use rules::{Answer, Refusal};
 use tables::Direction;
 
 // ---- what the additions share
+#[tactic(auto, unfolding(cells::specs::View::book_of))]
 pub fn setup_shut(book: &Book) -> bool
     ensures { result ≡ (book_of book.now).started }
 {
@@ -23,7 +24,7 @@ pub fn setup_shut(book: &Book) -> bool
 
 // ---- directions
 fn direction_field(direction: Direction) -> bool
-    ensures { result ≡ (ltb 6 direction.out || ltb 6 direction.into || eqb direction.out direction.into || not (eqb direction.model 1 || eqb direction.model 4)) }
+    ensures { result ≡ (nat_lt 6 direction.out || nat_lt 6 direction.into || direction.out == direction.into || not (direction.model == 1 || direction.model == 4)) }
 {
     if direction.out > 6 || direction.into > 6 {
         return true;
@@ -38,11 +39,10 @@ fn same_operators(standing: Direction, out: u32, into: u32) -> bool
 }
 
 // The same operators in order, or in opposite order under the other model.
-fn direction_clashes(book: &Book, k: u32, direction: Direction) -> bool
-    requires { k < direction_limit }
-    ensures { result ≡ clashes direction.out direction.into direction.model (direction_at book.now k) }
+#[tactic(auto, unfolding(crate::specs::Work::clashes))]
+fn direction_clashes(standing: Direction, direction: Direction) -> bool
+    ensures { result ≡ clashes direction.out direction.into direction.model (direction_of standing) }
 {
-    let standing = tables::direction_at(book, k as u8);
     if same_operators(standing, direction.out, direction.into) {
         return true;
     }
@@ -52,8 +52,9 @@ fn direction_clashes(book: &Book, k: u32, direction: Direction) -> bool
 fn direction_taken(book: &Book, direction: Direction) -> bool
     ensures { result ≡ direction_taken direction.out direction.into direction.model (book_of book.now).directions }
 {
-    let count = cells::DIRECTIONS.count(book);
-    (0..count).any(|k| direction_clashes(book, k, direction))
+    let rows = cells::DIRECTIONS.rows(book);
+    rows.iter()
+        .any(|row| direction_clashes(Direction::of_row(row), direction))
 }
 
 fn direction_verdict(book: &Book, direction: Direction) -> Result<(), Refusal>
@@ -80,19 +81,19 @@ pub fn add_direction(book: &mut Book, direction: Direction) -> Answer
     direction_verdict(book, direction)?;
     cells::cells_in(book);
     let row = [direction.out, direction.into, direction.model];
-    Ok(stores::add_row(book, cells::DIRECTIONS, &row))
+    Ok(stores::add_row(book, &cells::DIRECTIONS, &row))
 }
 
 // ---- profiles
 fn profile_field(map: u32) -> bool
-    ensures { result ≡ ltb (ones map) 2 }
+    ensures { result ≡ nat_lt (ones map) 2 }
 {
     u32::count_ones(map) < 2
 }
 
 // A bit of a direction that is not there.
 fn profile_unknown(book: &Book, map: u32) -> bool
-    ensures { result ≡ leb (2 ^ length (book_of book.now).directions) map }
+    ensures { result ≡ nat_le (2 ^ length (book_of book.now).directions) map }
 {
     let count = cells::DIRECTIONS.count(book);
     (map >> count) != 0
@@ -122,5 +123,5 @@ pub fn add_profile(book: &mut Book, map: u32) -> Answer
     profile_verdict(book, map)?;
     cells::cells_in(book);
     let row = [map];
-    Ok(stores::add_row(book, cells::PROFILES, &row))
+    Ok(stores::add_row(book, &cells::PROFILES, &row))
 }

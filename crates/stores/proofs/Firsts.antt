@@ -1,20 +1,23 @@
 -- The first entry of a table that passes a test: the search for it, and the table with that entry changed or else a new one added.
 -- Assumes nothing.
 use Rattle.std.specs.Prelude.{Some, None}
-use Prim.Native.Nat.{ℕ, zero, suc, ◌+◌, ◌≤◌, ◌<◌}
+use Rattle.std.specs.List.{position, position_or_len}
+use Rattle.std.proofs.lemmas.List.{length-map}
+use Rattle.std.proofs.lemmas.List.Recursion.{is_position_or_len}
+use Rattle.std.proofs.lemmas.Grind.{common_steps}
+use Prim.Native.Nat.{ℕ, suc, ◌+◌, ◌≤◌, ◌<◌}
 use mathlib.Core.Path.{◌≡◌, refl, sym, ap, ◌∙◌}
 use mathlib.Core.Logic.{◌≢◌}
-use mathlib.Core.Bool.{Bool, true, false, cond, ◌||◌}
-use mathlib.Core.List.{List, [], ◌∷◌, ◌++◌}
+use mathlib.Core.Bool.{Bool, true, false, cond, ◌||◌, not}
+use mathlib.Core.List.{List, [], ◌∷◌, ◌++◌, map}
 use native.Mathlib.Omega.{arith}
-use native.Mathlib.Nat.{add-zero, zero-add}
-use borrow.Author.Tests.{lt-ltb, ltb-true, ltb-false}
+use native.Mathlib.Nat.{zero-add}
+use borrow.Author.Tests.{lt-ltb}
 use lib.Dec.{ltb, leb-suc-suc}
 use lib.ListN.{get_or, set, length}
 use Rattle.rules.specs.Book.{Right}
 use Rattle.rules.specs.Bids.{wrap_added, is_right_of, right_taken, added_right, right_from}
-use Rattle.cells.specs.Loops.{each, rows}
-use Rattle.cells.specs.Search.{try_row, first_row}
+use Rattle.cells.specs.Loops.{rows}
 use Rattle.cells.specs.View.{cell, counted}
 use Rattle.cells.proofs.Rows.{rows-set}
 
@@ -69,52 +72,30 @@ module _ {A : Type 0} (t : A → Bool) where
       go true e ih = let m : suc (length xs) ≤ 0 = rw e at l in absurd (omega arith)
       go false e ih = let m : suc (length xs) ≤ suc (place_of xs) = rw e at l in ap (λ (r : List A). x ∷ r) (ih (omega arith))
 
-  -- the search
-  module _ (f : ℕ → A) where
-    search_is : (n k : ℕ) → each (try_row t f) n k None ≡ cond (ltb (place_of (rows f n k)) n) (Some (k + place_of (rows f n k))) None
-    unfolding each rows place_of try_row
-    search_is zero k = refl
-    search_is (suc n) k = go (t (f k)) (search_is n (k + 1))
-      where
-        go : (s : Bool) → each (try_row t f) n (k + 1) None ≡ cond (ltb (place_of (rows f n (k + 1))) n) (Some (k + 1 + place_of (rows f n (k + 1)))) None
-            → cond s (Some k) (each (try_row t f) n (k + 1) None)
-            ≡ cond (ltb (cond s 0 (suc (place_of (rows f n (k + 1))))) (suc n)) (Some (k + cond s 0 (suc (place_of (rows f n (k + 1)))))) None
-        go true ih = rw (lt-ltb 0 (suc n) (omega arith), add-zero k)
-        go false ih =
-            let e : k + suc (place_of (rows f n (k + 1))) ≡ k + 1 + place_of (rows f n (k + 1)) = omega arith in
-            ih ∙ rw (e, leb-suc-suc (suc (place_of (rows f n (k + 1)))) n)
+-- ---- the library's search
 
-    -- what its answer says
-    module _ (n : ℕ) where
-      abbrev first : ℕ
-      first = place_of (rows f n 0)
+module _ {A B : Type 0} (t : B → Bool) (h : A → B) where
+  place_in : (xs : List A) → position_or_len (λ x. t (h x)) xs ≡ position_or_len t (map h xs)
+  place_in [] = refl
+  place_in (x ∷ xs) = ap (λ (n : ℕ). cond (not (t (h x))) (1 + n) 0) (place_in xs)
 
-      pub found_is : first_row t f n ≡ cond (ltb first n) (Some first) None
-      unfolding first_row
-      found_is = search_is n 0 ∙ rw (zero-add first)
+  -- the position among the rows of a table is that among its entries
+  pub position_in : (xs : List A) → position (λ x. t (h x)) xs ≡ position t (map h xs)
+  position_in xs = rw (place_in xs, length-map xs h) refl
 
-      pub first_at : (i : ℕ) → first_row t f n ≡ Some i → (i ≡ first) × (i < n)
-      first_at i e = go (ltb first n) refl
-        where
-          go : (s : Bool) → ltb first n ≡ s → (i ≡ first) × (i < n)
-          go true s =
-              let q : Some first ≡ Some i = rw s at (sym found_is ∙ e) in
-              let r : first ≡ i = cc in
-              (sym r, rw (← r) (ltb-true first n s))
-          go false s =
-              let q : None ≡ Some i = rw s at (sym found_is ∙ e) in
-              let z : ◌≡◌ {A = ℕ} 0 1 = cc in
-              absurd (omega arith)
+module _ {A : Type 0} (t : A → Bool) (xs : List A) where
+  place_is : place_of t xs ≡ position_or_len t xs
+  unfolding place_of
+  place_is = is_position_or_len (place_of t) t refl (λ y ys. ap (cond (t y) 0) (omega arith)) xs
 
-      pub first_none : first_row t f n ≡ None → n ≤ first
-      first_none e = go (ltb first n) refl
-        where
-          go : (s : Bool) → ltb first n ≡ s → n ≤ first
-          go true s =
-              let q : Some first ≡ None = rw s at (sym found_is ∙ e) in
-              let z : ◌≡◌ {A = ℕ} 0 1 = cc in
-              absurd (omega arith)
-          go false s = ltb-false first n s
+  pub position_is : position t xs ≡ cond (ltb (place_of t xs) (length xs)) (Some (place_of t xs)) None
+  position_is = rw place_is refl
+
+  pub position_at : (k : ℕ) → position t xs ≡ Some k → (k ≡ place_of t xs) × (k < length xs)
+  position_at k e = rw place_is (grind (arith, common_steps))
+
+  pub position_none : position t xs ≡ None → length xs ≤ place_of t xs
+  position_none e = rw place_is (grind (arith, common_steps))
 
 -- one row of a table changed
 pub table_set : {A : Type 0} (f : List ℕ → ℕ → A) (at limit : ℕ) (b b' : List ℕ) (i : ℕ) → cell b' at ≡ cell b at → i < counted b at limit

@@ -6,9 +6,8 @@ use mathlib.Core.Logic.{◌≢◌}
 use mathlib.Core.List.{List, [], ◌∷◌, ◌++◌}
 use native.Mathlib.Omega.{arith}
 use native.Mathlib.Nat.{add-zero, zero-add, mul-le-mul_right, le_trans, mod-eq_of_lt}
-use native.Mathlib.Numerals.{add-one}
-use lib.ListN.{get_or, set, length, drop, length-set, drop_of_length-le, length-append, get_or-append}
-use lib.Seq.{get_or-set_same, get_or-set_other, sets, length-sets, drop-cons, ext_get_or, get_or-append_seam}
+use lib.ListN.{get_or, set, length, length-set, length-append, get_or-append}
+use lib.Seq.{get_or-set_same, get_or-set_other, sets, length-sets, ext_get_or, get_or-append_seam}
 use Rattle.rules.specs.Book.{Direction, Party, Right, direction_limit, party_limit, profile_limit, right_limit}
 use Rattle.cells.specs.Loops.{rows}
 use Rattle.cells.specs.Layout.{CELLS, DIRECTIONS, PROFILES, PARTIES, OFFERED, RIGHTS, PAIRS}
@@ -18,17 +17,6 @@ use Rattle.cells.proofs.Rows.{rows_same, rows_more}
 use Rattle.cells.proofs.Regions.{Within, only_directions, only_profiles, only_parties, only_rights, part_agree}
 use Rattle.cells.specs.Updates.{with_directions, with_profiles, with_parties, with_rights}
 use Rattle.cells.proofs.Views.{part_at, part_length}
-
--- ---- a loop that writes a row
-
-pub sets_next : (b : List ℕ) (at k : ℕ) (row : List ℕ) → k < length row
-    → sets b (at + k) (drop k row) ≡ sets (set b (at + k) (get_or row k 0)) (at + (k + 1)) (drop (k + 1) row)
-sets_next b at k row l =
-    let e : at + (k + 1) ≡ suc (at + k) = omega arith in
-    rw (drop-cons row k 0 l, e, add-one k)
-
-pub sets_done : (b : List ℕ) (at k : ℕ) (row : List ℕ) → length row ≤ k → sets b (at + k) (drop k row) ≡ b
-sets_done b at k row l = rw (drop_of_length-le row {i = k} l)
 
 -- ---- the cells of a row
 

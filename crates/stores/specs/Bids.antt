@@ -1,6 +1,6 @@
 -- Granted MW and a right's MW after a bid: over cells, as the workers leave them, and the granted MW over the list of the rules. Sums are those of 32 bits.
 -- Assumes nothing.
-use Rattle.std.specs.Prelude.{ℕ, suc, ◌+◌, ◌/◌, ◌%◌, ◌^◌, cond, List, [], ◌∷◌, get_or, set}
+use Rattle.std.specs.Prelude.{ℕ, suc, ◌+◌, ◌/◌, ◌%◌, ◌^◌, if◌then◌else◌, List, [], ◌∷◌, get_or, set}
 use Rattle.rules.specs.Basics.{bit}
 use Rattle.rules.specs.Book.{place, of_profile}
 use Rattle.rules.specs.Bids.{share}
@@ -14,7 +14,7 @@ added_cell at mw b = set b at ((cell b at + mw) % 2 ^ 32)
 
 -- of profile p, where it holds the direction
 unfoldable pub granted_profile : ℕ → ℕ → ℕ → ℕ → List ℕ → List ℕ
-granted_profile d hour mw p b = cond (bit (cell b (PROFILES + 1 + p)) d) (added_cell (GRANTED + place (of_profile p) hour) mw b) b
+granted_profile d hour mw p b = if bit (cell b (PROFILES + 1 + p)) d then added_cell (GRANTED + place (of_profile p) hour) mw b else b
 
 -- of the direction, and of n profiles
 unfoldable pub granted_hour : ℕ → ℕ → ℕ → ℕ → List ℕ → List ℕ

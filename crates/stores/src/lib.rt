@@ -52,12 +52,17 @@ pub fn clear(book: &mut Book, date: Option<Date>, hours: u8, weekday: u8)
     book[cells::WEEKDAY] = weekday as u32;
 }
 
-// The last row of a table, by its number; the table's count becomes the number and 1.
+// The last row of a table, by its number; the table's count becomes the number and 1. Any slice of the table's width is taken, as ever.
 #[tactic(auto, using(rules::proofs::Stores::copied), unfolding(crate::specs::Stores::with_row))]
-pub fn set_last_row(book: &mut Book, table: Table, number: u32, row: &[u32])
-    requires width { length row.now ≡ table.width }
-    requires room { number < table.limit }
-    ensures { book.new ≡ with_row table.at number row.now book.old }
+pub fn set_last_row<const WIDTH: usize>(
+    book: &mut Book,
+    table: &Table<WIDTH>,
+    number: u32,
+    row: &[u32],
+)
+    requires width { length row.now ≡ WIDTH }
+    requires room { number < table.now.limit }
+    ensures { book.new ≡ with_row table.now.at number row.now book.old }
 {
     let first = table.row(number);
     book[first..first + row.len()].copy_from_slice(row);
@@ -65,11 +70,10 @@ pub fn set_last_row(book: &mut Book, table: Table, number: u32, row: &[u32])
 }
 
 // A row more in a table that has room: its number.
-pub fn add_row(book: &mut Book, table: Table, row: &[u32]) -> u32
-    requires width { length row.now ≡ table.width }
-    requires room { counted book.old table.at table.limit < table.limit }
-    ensures number { result ≡ counted book.old table.at table.limit }
-    ensures cells { book.new ≡ with_row table.at result row.now book.old }
+pub fn add_row<const WIDTH: usize>(book: &mut Book, table: &Table<WIDTH>, row: &[u32; WIDTH]) -> u32
+    requires { counted book.old table.now.at table.now.limit < table.now.limit }
+    ensures number { result ≡ counted book.old table.now.at table.now.limit }
+    ensures cells { book.new ≡ with_row table.now.at result row.now book.old }
 {
     let number = table.count(book);
     set_last_row(book, table, number, row);

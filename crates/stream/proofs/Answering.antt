@@ -15,11 +15,11 @@ use Rattle.stream.specs.Input.{following}
 use Rattle.stream.specs.Running.{AnswersNext}
 
 -- the unread bytes are those behind the record
-abbrev pub TakenFrom : Progress → Result Taken Refusal → Progress → Answer → Type 0
+abbrev pub TakenFrom : {room size : ℕ} → Progress room size → Result Taken Refusal → Progress room size → Answer → Type 0
 TakenFrom progress t r answer = (r ≡ record progress { unread = drop (length_of t) progress.unread }) × (answer ≡ answer_of t)
 
-module _ (before : List ℕ) (progress : Progress) (t : Result Taken Refusal) (after : List ℕ) (k : Takes before progress.unread t after)
-    (r : Progress) (answer : Answer) (u : TakenFrom progress t r answer) (n : ReplyNumbers) (e : said_numbers n ≡ said answer)
+module _ {room size : ℕ} (before : List ℕ) (progress : Progress room size) (t : Result Taken Refusal) (after : List ℕ) (k : Takes before progress.unread t after)
+    (r : Progress room size) (answer : Answer) (u : TakenFrom progress t r answer) (n : ReplyNumbers) (e : said_numbers n ≡ said answer)
     (lines : List ℕ) (h : lines ≡ collected r ++ line_of r.position (said_numbers n)) where
   replied : said_numbers n ≡ (at_front (book_of before) progress.unread).reply
   replied = e ∙ ap said u.1 ∙ k.reply

@@ -27,4 +27,4 @@ unfolding leap days_in is_date days_of_years days_of_months days_since weekday_o
 example_printed = refl
 
 pub example_written : ExampleWritten
-example_written input written rest st s t last e = writes_all input written rest st s t last ∙ ap (λ (i : List ℕ). printed start_book 1 i) e ∙ example_printed
+example_written room size input written rest st room_for_line s t last e = writes_all room size input written rest st room_for_line s t last ∙ ap (λ (i : List ℕ). printed start_book 1 i) e ∙ example_printed

@@ -19,7 +19,7 @@ use Rattle.dayrun_records.proofs.Taking.{front_read, front_refused}
 use Rattle.dayrun_settled.proofs.Patterns.{nothing_open}
 use Rattle.dayrun_settled.proofs.Front.{end_least}
 use Rattle.dayrun_settled.proofs.Settled.{settled_stays, unsettled_open, settled_more}
-use Rattle.dayrun_progress.proofs.Nexts.{answering, reading_on, ending}
+use Rattle.dayrun_progress.proofs.Nexts.{answering, reading_on, unanswered, ending}
 
 -- ---- the lines of an input
 
@@ -109,20 +109,20 @@ or_false true = refl
 or_false false = refl
 
 -- what is still to be printed, of the state and what follows its unread bytes
-abbrev left : Bool → State → List ℕ → List ℕ
+abbrev left : {room size : ℕ} → Bool → State room size → List ℕ → List ℕ
 left e st rest = cond st.progress.done [] (lines_of e (book_of st.cells) st.progress.position (st.progress.unread ++ rest))
 
 -- the lines of the input and what follows it are those written, those collected and those still to come
-abbrev Kept : List ℕ → List ℕ → State → Type 0
+abbrev Kept : {room size : ℕ} → List ℕ → List ℕ → State room size → Type 0
 Kept input written st =
     (e : Bool) (rest : List ℕ) → Allowed st.progress.ended e rest
     → lines_of e start_book 1 (input ++ rest) ≡ written ++ (collected st.progress ++ left e st rest)
 
-module _ (input written : List ℕ) (st : State) (kept : Kept input written st) where
+module _ {room size : ℕ} (input written : List ℕ) (st : State room size) (kept : Kept input written st) where
   abbrev outcome : Outcome
   outcome = at_front (book_of st.cells) st.progress.unread
 
-  kept_answer : (r : Progress) (after : List ℕ) → next_in st ≡ Take → AnswersNext st.cells st.progress r after → Kept input written (record { cells = after; progress = r })
+  kept_answer : (r : Progress room size) (after : List ℕ) → next_in st ≡ Take → AnswersNext st.cells st.progress r after → Kept input written (record { cells = after; progress = r })
   kept_answer r after t a e rest al =
       let h = answering st.progress t in
       let allowed : Allowed st.progress.ended e rest = rw a.moved at al in
@@ -144,26 +144,27 @@ module _ (input written : List ℕ) (st : State) (kept : Kept input written st) 
       let opened : Allowed st.progress.ended e (more ++ rest) = λ q. absurd (true≢false (sym q ∙ h.open_input)) in
       rw (append_assoc input more rest, append_assoc st.progress.unread more rest) (kept e (more ++ rest) opened)
 
-kept : {input written : List ℕ} {st : State} → Reaches input written st → Kept input written st
+kept : {room size : ℕ} {input written : List ℕ} {st : State room size} → Reaches input written st → Kept input written st
 kept (begins cells b) = λ e rest al. rw b refl
 kept (answers {input} {written} {st} r after s t a) = kept_answer input written st (kept s) r after t a
 kept (writes {input} {written} {st} s t) = kept_write input written st (kept s)
 kept (reads {input} {written} {st} more s t) = kept_read input written st (kept s) more t
 
 pub writes_at_once : WritesAtOnce
-writes_at_once input written st s t =
+writes_at_once room size input written st room_for_line s t =
     let h = reading_on st.progress t in
-    let none = lines_none false (book_of st.cells) st.progress.position st.progress.unread (rw h.open_input at h.unknown) in
+    let unknown = unanswered st.progress room_for_line t in
+    let none = lines_none false (book_of st.cells) st.progress.position st.progress.unread (rw h.open_input at unknown) in
     sym (rw (append-nil input, append-nil st.progress.unread, h.empty, h.going, none, append-nil written) at (kept s false [] (λ q. absurd (true≢false (sym q ∙ h.open_input)))))
 
 pub waits_where_open : WaitsWhereOpen
 unfolding answerable
-waits_where_open st t =
-    let h = reading_on st.progress t in
-    unsettled_open st.progress.unread (rw h.open_input at h.unknown)
+waits_where_open room size st room_for_line t =
+    let unknown = unanswered st.progress room_for_line t in
+    unsettled_open st.progress.unread (rw (reading_on st.progress t).open_input at unknown)
 
 -- nothing is left where the program is done, or no byte is
-none_left : (st : State) (rest : List ℕ) → (st.progress.ended ≡ true → rest ≡ [])
+none_left : {room size : ℕ} (st : State room size) (rest : List ℕ) → (st.progress.ended ≡ true → rest ≡ [])
     → (st.progress.done ≡ true) ⊎ ((st.progress.ended ≡ true) × (answerable st.progress.ended st.progress.unread ≡ false)) → left true st rest ≡ []
 none_left st rest last (inl d) = rw d refl
 none_left st rest last (inr (e, a)) =
@@ -175,6 +176,6 @@ none_left st rest last (inr (e, a)) =
     either false = refl
 
 pub writes_all : WritesAll
-writes_all input written rest st s t last =
-    let h = ending st.progress t in
+writes_all room size input written rest st room_for_line s t last =
+    let h = ending st.progress room_for_line t in
     sym (kept s true rest (λ q. (refl, last q)) ∙ rw (h.empty, none_left st rest last h.over) (append-nil written))

@@ -1,6 +1,6 @@
 -- What the program prints for the whole of its input.
 -- Assumes nothing.
-use Rattle.std.specs.Prelude.{ℕ, zero, suc, ◌+◌, ◌%◌, ◌^◌, Bool, true, cond, List, [], ◌++◌, length, drop, ◌==◌}
+use Rattle.std.specs.Prelude.{ℕ, zero, suc, ◌+◌, ◌%◌, ◌^◌, Bool, true, if◌then◌else◌, List, [], ◌++◌, length, drop, ◌==◌}
 use Rattle.rules.specs.Book.{Book}
 use Rattle.dayrun_progress.specs.States.{answerable}
 use Rattle.lines.specs.Text.{line_of}
@@ -14,10 +14,9 @@ following k = (k + 1) % 2 ^ 64
 unfoldable pub lines_in : ℕ → Bool → Book → ℕ → List ℕ → List ℕ
 lines_in zero ended b k s = []
 lines_in (suc n) ended b k s =
-    cond (answerable ended s)
-    (line_of k (at_front b s).reply
-    ++ cond ((at_front b s).reply.number == 1) [] (lines_in n ended (at_front b s).book (following k) (drop (at_front b s).length s)))
-    []
+    if answerable ended s
+    then line_of k (at_front b s).reply ++ (if (at_front b s).reply.number == 1 then [] else lines_in n ended (at_front b s).book (following k) (drop (at_front b s).length s))
+    else []
 
 -- all of them: each takes a byte at least
 abbrev pub lines_of : Bool → Book → ℕ → List ℕ → List ℕ

@@ -1,8 +1,8 @@
 -- The step that answers a record, all steps in a row, and what they write, however the input comes in parts.
 -- Assumes nothing.
-use Rattle.std.specs.Prelude.{◌≡◌, ℕ, true, false, List, [], ◌∷◌, ◌++◌, drop, ◌==◌}
+use Rattle.std.specs.Prelude.{◌≡◌, ℕ, ◌≤◌, true, false, List, [], ◌∷◌, ◌++◌, drop, ◌==◌}
 use Rattle.cells.specs.View.{book_of}
-use Rattle.lines.specs.Text.{line_of}
+use Rattle.lines.specs.Text.{line_size, line_of}
 use Rattle.dayrun_progress.specs.declared.Progress.{Progress}
 use Rattle.dayrun_progress.specs.declared.Next.{Next}
 use Rattle.dayrun_progress.specs.declared.Next.TheVariants.{Take, Write, Read, End}
@@ -14,7 +14,7 @@ use Rattle.stream.specs.Input.{following, lines_of, printed}
 -- ---- a record
 
 -- after a record with this outcome was answered: a 1 is the last
-abbrev pub answered_progress : Progress → Outcome → Progress
+abbrev pub answered_progress : {room size : ℕ} → Progress room size → Outcome → Progress room size
 answered_progress progress a =
     record progress {
       unread = drop a.length progress.unread;
@@ -24,47 +24,49 @@ answered_progress progress a =
     }
 
 -- the next record is answered, and its line collected
-pub record AnswersNext (before : List ℕ) (progress r : Progress) (after : List ℕ) : Type 0 where
+pub record AnswersNext {room size : ℕ} (before : List ℕ) (progress r : Progress room size) (after : List ℕ) : Type 0 where
   pub book : book_of after ≡ (at_front (book_of before) progress.unread).book
   pub moved : r ≡ answered_progress progress (at_front (book_of before) progress.unread)
   pub bytes : Bytes progress.unread
 
 -- ---- steps in a row
 
--- the cells of the book, and the progress
-pub record State : Type 0 where
+-- the cells of the book, and the progress, with this room for input and for lines
+pub record State (room size : ℕ) : Type 0 where
   pub cells : List ℕ
-  pub progress : Progress
+  pub progress : Progress room size
 
 -- what comes next there
-abbrev pub next_in : State → Next
+abbrev pub next_in : {room size : ℕ} → State room size → Next
 next_in st = next_of st.progress
 
 -- the states that steps lead to, each with the promise of its function: what was read of the input so far, what was written, the state.
 -- A read brings as many bytes as it likes
-pub data Reaches : List ℕ → List ℕ → State → Type 0 where
+pub data Reaches {room size : ℕ} : List ℕ → List ℕ → State room size → Type 0 where
   begins : (cells : List ℕ) → book_of cells ≡ start_book → Reaches [] [] (record { cells = cells; progress = start_progress })
-  answers : {input written : List ℕ} {st : State} (r : Progress) (after : List ℕ) → Reaches input written st → next_in st ≡ Take
+  answers : {input written : List ℕ} {st : State room size} (r : Progress room size) (after : List ℕ) → Reaches input written st → next_in st ≡ Take
       → AnswersNext st.cells st.progress r after
       → Reaches input written (record { cells = after; progress = r })
-  writes : {input written : List ℕ} {st : State} → Reaches input written st → next_in st ≡ Write
+  writes : {input written : List ℕ} {st : State room size} → Reaches input written st → next_in st ≡ Write
       → Reaches input (written ++ collected st.progress) (record st { progress = wrote_progress st.progress true })
-  reads : {input written : List ℕ} {st : State} (more : List ℕ) → Reaches input written st → next_in st ≡ Read
+  reads : {input written : List ℕ} {st : State room size} (more : List ℕ) → Reaches input written st → next_in st ≡ Read
       → Reaches (input ++ more) written (record st { progress = received_progress st.progress more })
 
--- at the end all lines of the whole input are written; where the program ended by itself, there may be a rest that it didn't read
+-- where a line fits the room for lines, all lines of the whole input are written at the end; where the program ended by itself, there may be a rest that it didn't read
 abbrev pub WritesAll : Type 0
 WritesAll =
-    (input written rest : List ℕ) (st : State) → Reaches input written st → next_in st ≡ End → (st.progress.ended ≡ true → rest ≡ [])
-    → written ≡ printed start_book 1 (input ++ rest)
+    (room size : ℕ) (input written rest : List ℕ) (st : State room size) → line_size ≤ size → Reaches input written st → next_in st ≡ End
+    → (st.progress.ended ≡ true → rest ≡ []) → written ≡ printed start_book 1 (input ++ rest)
 
 -- before each read, the lines of all records that are settled are written, and no others
 abbrev pub WritesAtOnce : Type 0
-WritesAtOnce = (input written : List ℕ) (st : State) → Reaches input written st → next_in st ≡ Read → written ≡ lines_of false start_book 1 input
+WritesAtOnce =
+    (room size : ℕ) (input written : List ℕ) (st : State room size) → line_size ≤ size → Reaches input written st → next_in st ≡ Read
+    → written ≡ lines_of false start_book 1 input
 
 -- and the bytes that are left may still become a record
 abbrev pub WaitsWhereOpen : Type 0
-WaitsWhereOpen = (st : State) → next_in st ≡ Read → Open st.progress.unread
+WaitsWhereOpen = (room size : ℕ) (st : State room size) → line_size ≤ size → next_in st ≡ Read → Open st.progress.unread
 
 -- ---- the example of document 01
 
@@ -95,5 +97,5 @@ ExamplePrinted = printed start_book 1 example_input ≡ example_text
 -- and so the program writes these where it comes to its end over them, in whatever parts it reads them
 abbrev pub ExampleWritten : Type 0
 ExampleWritten =
-    (input written rest : List ℕ) (st : State) → Reaches input written st → next_in st ≡ End → (st.progress.ended ≡ true → rest ≡ [])
-    → input ++ rest ≡ example_input → written ≡ example_text
+    (room size : ℕ) (input written rest : List ℕ) (st : State room size) → line_size ≤ size → Reaches input written st → next_in st ≡ End
+    → (st.progress.ended ≡ true → rest ≡ []) → input ++ rest ≡ example_input → written ≡ example_text

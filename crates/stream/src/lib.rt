@@ -3,15 +3,17 @@
 
 ghost use Rattle.std.specs.Prelude.{◌+◌, ◌≤◌, length};
 ghost use Rattle.lines.specs.Text.{line_size};
-ghost use Rattle.dayrun_progress.specs.States.{text_size};
 ghost use Rattle.stream.specs.Running.{AnswersNext};
 
 use cells::Book;
 use dayrun_progress::Progress;
 
 // Answers the next record and collects its line. The program is done after a 1.
-pub fn answer_next(book: &mut Book, progress: &mut Progress)
-    requires { length progress.old.lines.items + line_size ≤ text_size }
+pub fn answer_next<const ROOM: usize, const TEXT: usize>(
+    book: &mut Book,
+    progress: &mut Progress<ROOM, TEXT>,
+)
+    requires { length progress.old.lines.items + line_size ≤ TEXT }
     ensures { AnswersNext book.old progress.old progress.new book.new }
 {
     let answer = match dayrun_records::take_record(book, progress.unread.bytes()) {

@@ -1,11 +1,12 @@
-// The reads of single cells of the tables: a direction, a right, the MW of an hour, a matched session.
+// Rows of the tables as what they hold, and the reads of single cells: the MW of an hour, a matched session.
 #![tactic(auto)]
 
-ghost use Rattle.std.specs.Prelude.{◌≡◌, ◌+◌, ◌<◌, get_or};
-ghost use Rattle.rules.specs.Book.{place, left_at, shortfall_at, direction_limit, right_limit};
+ghost use Rattle.std.specs.Prelude.{◌≡◌, ◌+◌, get_or};
+ghost use Rattle.rules.specs.Book.{place, left_at, shortfall_at};
 ghost use Rattle.rules.specs.Refusals.{is_matched};
 ghost use Rattle.cells.specs.Layout.{OFFERED, GRANTED};
-ghost use Rattle.cells.specs.View.{book_of, direction_at, right_at};
+ghost use Rattle.cells.specs.View.{book_of, direction_read, right_read};
+ghost use Rattle.tables.specs.Rows.{direction_of};
 
 use cells::{Book, Place};
 use rules::Session;
@@ -26,32 +27,28 @@ pub struct RightKey {
     pub session: Session,
 }
 
-pub fn direction_at(book: &Book, direction: u8) -> Direction
-    requires { direction < direction_limit }
-    ensures out { result.out ≡ (direction_at book.now direction).out }
-    ensures into { result.into ≡ (direction_at book.now direction).into }
-    ensures model { result.model ≡ (direction_at book.now direction).model }
-{
-    let row = cells::DIRECTIONS.row(direction as u32);
-    Direction {
-        out: book[row],
-        into: book[row + 1],
-        model: book[row + 2],
+impl Direction {
+    // By the cells of its row. No `From` a reference to an array: the row's kind has a name here.
+    pub fn of_row(row: &[u32; 3]) -> Self
+        ensures { direction_of result ≡ direction_read row.now }
+    {
+        let [out, into, model] = *row;
+        Direction { out, into, model }
     }
 }
 
-// The holder, the direction and the session of a right.
-pub fn right_key(book: &Book, right: u16) -> RightKey
-    requires { right < right_limit }
-    ensures holder { result.holder ≡ (right_at book.now right).holder }
-    ensures direction { result.direction ≡ (right_at book.now right).direction }
-    ensures session { result.session.0 ≡ (right_at book.now right).session }
-{
-    let row = cells::RIGHTS.row(right as u32);
-    RightKey {
-        holder: (book[row] % 256) as u8,
-        direction: (book[row + 1] % 256) as u8,
-        session: Session((book[row + 2] % 256) as u8),
+impl RightKey {
+    // By the cells of a right's row, which has more than the key.
+    pub fn of_row(row: &[u32; 8]) -> Self
+        ensures holder { result.holder ≡ (right_read row.now).holder }
+        ensures direction { result.direction ≡ (right_read row.now).direction }
+        ensures session { result.session.0 ≡ (right_read row.now).session }
+    {
+        RightKey {
+            holder: (row[0] % 256) as u8,
+            direction: (row[1] % 256) as u8,
+            session: Session((row[2] % 256) as u8),
+        }
     }
 }
 

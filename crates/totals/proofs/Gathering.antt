@@ -1,76 +1,72 @@
 -- The pairs of a right, gathered row by row: their lower sides have the sums of the rules.
 -- Assumes nothing.
-use Prim.Native.Nat.{ℕ, zero, suc, ◌+◌, ◌-◌, ◌*◌, ◌≤◌, ◌<◌, min}
-use mathlib.Core.Path.{◌≡◌, refl}
-use mathlib.Core.Bool.{true}
-use lib.Dec.{eqb}
-use mathlib.Core.List.{List, []}
-use native.Mathlib.Omega.{arith}
-use native.Mathlib.Nat.{add-zero, zero-add}
-use native.Mathlib.Numerals.{add-one}
-use lib.ListN.{length, get_or, take, set}
-use lib.Seq.{take-suc-set}
+use Rattle.std.proofs.Common.{◌≡◌, ℕ, ◌+◌, ◌≤◌, ◌<◌, cond, eqb, List, [], ◌∷◌, ◌++◌, map, length, length-append, get_or, take, refl, sym, ap, ◌∙◌, arith, add-one}
+use Rattle.std.proofs.Math.Seq.{take-suc}
+use Rattle.std.proofs.Math.Nat.{add-zero}
+use Rattle.std.proofs.lemmas.List.{map-append, take_all}
+use mathlib.Core.Logic.{◌≢◌}
 use borrow.Author.Tests.{eq-eqb, ne_eqb}
 use Rattle.rules.specs.Basics.{five}
-use Rattle.rules.specs.Book.{pair_limit}
-use Rattle.rules.specs.Nominations.{lower_total}
+use Rattle.rules.specs.Book.{Pair, pair_limit}
+use Rattle.rules.specs.Nominations.{lower, lower_total}
 use Rattle.cells.specs.Layout.{PAIRS}
-use Rattle.cells.specs.Loops.{rows}
-use Rattle.cells.specs.View.{cell, counted, pair_at, pairs_in, book_of}
-use Rattle.cells.proofs.Views.{part_at}
+use Rattle.cells.specs.View.{rows_in, pair_read}
+use Rattle.cells.proofs.Entries.{few_rows, pairs_are}
 use Rattle.totals.specs.declared.PairLower.{PairLower}
-use Rattle.totals.specs.Total.{lower_of, sum_of, total_lower, totals}
+use Rattle.totals.specs.Total.{lower_of, sum_in, sum_of, totals}
+use Rattle.totals.specs.Gathered.{Gathered, lower_in}
 use Rattle.totals.proofs.Sums.{sum-snoc}
-use Rattle.totals.specs.Gathered.{Gathered, lower_in, total_in}
-use Rattle.totals.specs.declared.PairList.{PairList}
 
--- the two sides of a pair in one hour stand in two cells
-pub lower_is : (b : List ℕ) (i k v : ℕ) → k < 5 → v ≡ min (cell b (PAIRS + 4 + i * 13 + k)) (cell b (PAIRS + 4 + i * 13 + k + 5)) → v ≡ lower_in b i k
-unfolding pair_at
-lower_is b i k v l e =
-    let s : PAIRS + 4 + i * 13 + k + 5 ≡ PAIRS + 9 + i * 13 + k = omega arith in
-    rw (part_at b (PAIRS + 4 + i * 13) 5 k l, part_at b (PAIRS + 9 + i * 13) 5 k l, ← s) e
+-- the pairs of right r among the first i rows
+pub record Passed (r : ℕ) (rows : List (List ℕ)) (i : ℕ) (list : List PairLower) : Type 0 where
+  pub few : length list ≤ i
+  pub sums : totals list ≡ five (λ k. lower_total r k (map pair_read (take i rows)))
 
--- nothing is gathered, and the whole table is left
-pub gather_start : (b : List ℕ) (r k last : ℕ) → last ≡ counted b PAIRS pair_limit → total_lower k [] + lower_total r k (rows (pair_at b) (last - 0) 0) ≡ total_in b r k
-unfolding sum_of book_of pairs_in
-gather_start b r k last e =
-    let s : last - 0 ≡ last = omega arith in
-    rw (s, e) (zero-add _)
+pub none_passed : (r : ℕ) (rows : List (List ℕ)) → Passed r rows 0 []
+unfolding sum_of lower_total
+none_passed r rows = record { few = omega arith; sums = refl }
 
--- nothing is left
-pub gather_done : (b : List ℕ) (r k last i n : ℕ) → last ≤ i → n + lower_total r k (rows (pair_at b) (last - i) i) ≡ n
-unfolding rows lower_total
-gather_done b r k last i n h =
-    let s : last - i ≡ 0 = omega arith in
-    rw s (add-zero n)
+one_more : (r k : ℕ) (ps : List Pair) (p : Pair) → lower_total r k (ps ++ (p ∷ [])) ≡ lower_total r k ps + cond (eqb p.right r) (lower k p) 0
+unfolding lower_total
+one_more r k [] p = omega arith
+one_more r k (x ∷ ps) p = omega (arith, one_more r k ps p)
 
--- a row of another right adds nothing
-pub gather_pass : (b : List ℕ) (r k last i n : ℕ) → i < last → (cell b (PAIRS + 1 + i * 13) ≡ r → ⊥)
-    → n + lower_total r k (rows (pair_at b) (last - (i + 1)) (i + 1)) ≡ n + lower_total r k (rows (pair_at b) (last - i) i)
-unfolding rows lower_total pair_at
-gather_pass b r k last i n h e =
-    let s : last - i ≡ suc (last - (i + 1)) = omega arith in
-    rw (s, ne_eqb _ _ e, zero-add)
+module _ (r : ℕ) (rows : List (List ℕ)) (i : ℕ) (list : List PairLower) (h : i < length rows) (s : Passed r rows i list) where
+  abbrev row : List ℕ
+  row = get_or rows i []
 
--- one of five values
-five_at : (f : ℕ → ℕ) (k : ℕ) → k < 5 → get_or (five f) k 0 ≡ f k
-five_at f zero h = refl
-five_at f (suc zero) h = refl
-five_at f (suc (suc zero)) h = refl
-five_at f (suc (suc (suc zero))) h = refl
-five_at f (suc (suc (suc (suc zero)))) h = refl
-five_at f (suc (suc (suc (suc (suc k))))) h = absurd (omega arith)
+  abbrev passed : List Pair
+  passed = map pair_read (take i rows)
 
-of_right : (b : List ℕ) (r i : ℕ) → cell b (PAIRS + 1 + i * 13) ≡ r → eqb (pair_at b i).right r ≡ true
-unfolding pair_at
-of_right b r i e = eq-eqb _ _ e
+  next : map pair_read (take (i + 1) rows) ≡ passed ++ (pair_read row ∷ [])
+  next = rw (add-one i, take-suc rows i [] h, map-append pair_read (take i rows) (row ∷ [])) refl
 
--- a row of the right is written after the first n, and is taken from the rest of the table
-pub gather_next : (b : List ℕ) (r k last i : ℕ) (l : List PairLower) (n : ℕ) (p : PairLower) → k < 5 → i < last → n < length l → p.lower ≡ five (lower_in b i) → cell b (PAIRS + 1 + i * 13) ≡ r
-    → total_lower k (take (n + 1) (set l n p)) + lower_total r k (rows (pair_at b) (last - (i + 1)) (i + 1)) ≡ total_lower k (take n l) + lower_total r k (rows (pair_at b) (last - i) i)
-unfolding rows lower_total
-gather_next b r k last i l n p m h u e f =
-    let s : last - i ≡ suc (last - (i + 1)) = omega arith in
-    let v : lower_of k p ≡ lower_in b i k = rw e (five_at (lower_in b i) k m) in
-    rw (add-one n, take-suc-set l n p u, sum-snoc (lower_of k) (take n l) p, s, of_right b r i f) (omega arith)
+  -- a row of another right
+  pub none_added : get_or row 0 0 ≢ r → Passed r rows (i + 1) list
+  none_added e =
+      let same : (k : ℕ) → lower_total r k passed ≡ lower_total r k (passed ++ (pair_read row ∷ [])) =
+      λ k. sym (one_more r k passed (pair_read row) ∙ rw (ne_eqb (get_or row 0 0) r e) (add-zero (lower_total r k passed))) in
+      let few = s.few in
+      record { few = omega arith; sums = s.sums ∙ rw (next, same 0, same 1, same 2, same 3, same 4) }
+
+  -- a row of the right
+  pub pair_added : get_or row 0 0 ≡ r → (p : PairLower) (after : List PairLower) → p.lower ≡ five (lower_in row) → after ≡ list ++ (p ∷ []) → Passed r rows (i + 1) after
+  pair_added e p after q a =
+      let more : (k : ℕ) → lower_total r k passed + lower_in row k ≡ lower_total r k (passed ++ (pair_read row ∷ [])) =
+      λ k. sym (one_more r k passed (pair_read row) ∙ rw (eq-eqb (get_or row 0 0) r e) refl) in
+      let here : (k : ℕ) → get_or (totals list) k 0 ≡ get_or (five (λ j. lower_total r j passed)) k 0 = λ k. ap (λ (l : List ℕ). get_or l k 0) s.sums in
+      let of_pair : five (sum_in (totals list) p.lower) ≡ five (λ k. lower_total r k (map pair_read (take (i + 1) rows))) =
+      rw (here 0, here 1, here 2, here 3, here 4, q, next) (rw (more 0, more 1, more 2, more 3, more 4) refl) in
+      let few = s.few in
+      let size : length after ≡ length list + 1 = rw a (length-append list (p ∷ [])) in
+      record {
+        few = omega arith;
+        sums = rw (a, sum-snoc (lower_of 0) list p, sum-snoc (lower_of 1) list p, sum-snoc (lower_of 2) list p, sum-snoc (lower_of 3) list p, sum-snoc (lower_of 4) list p) of_pair;
+      }
+
+-- all rows
+pub all_passed : (b : List ℕ) (r i : ℕ) {rows : List (List ℕ)} (list : List PairLower) → rows ≡ rows_in b PAIRS 13 pair_limit → length rows ≤ i → i ≤ length rows → Passed r rows i list → Gathered b r list
+all_passed b r i {rows} list e h l s =
+    let most : length rows ≤ pair_limit = rw e (few_rows b PAIRS 13 pair_limit) in
+    let few = s.few in
+    record { few = omega arith; sums = s.sums ∙ rw (take_all i rows h, e, pairs_are b) refl }

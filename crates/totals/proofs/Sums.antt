@@ -1,4 +1,4 @@
--- Laws of `sum_of` over any list, and of the five sums over a list of pairs.
+-- Laws of `sum_of` over any list, of the five sums over a list of pairs, and of five sums that stay small, as the loops of `totals` and `marks` make them.
 -- Assumes nothing.
 use mathlib.Core.Path.{◌≡◌}
 use Prim.Native.Nat.{ℕ, ◌+◌, ◌*◌, ◌<◌, ◌≤◌}
@@ -9,7 +9,7 @@ use lib.ListN.{length, get_or, take}
 use lib.Seq.{take-suc}
 use Rattle.rules.specs.Basics.{five}
 use Rattle.totals.specs.declared.PairLower.{PairLower}
-use Rattle.totals.specs.Total.{Most, lower_of, sum_in, sum_of, total_lower, totals}
+use Rattle.totals.specs.Total.{Most, lower_of, sum_in, sum_of, totals}
 
 module _ {X : Type 0} (f : X → ℕ) where
   pub sum-snoc : (l : List X) (p : X) → sum_of f (l ++ (p ∷ [])) ≡ sum_of f l + f p
@@ -23,19 +23,34 @@ module _ {X : Type 0} (f : X → ℕ) where
 
 -- one pair more
 module _ (l : List PairLower) (i : ℕ) (d : PairLower) (h : i < length l) where
-  pub totals_next : five (sum_in (totals (take i l)) (get_or l i d)) ≡ totals (take (i + 1) l)
+  pub totals_next : five (sum_in (totals (take i l)) (get_or l i d).lower) ≡ totals (take (i + 1) l)
   totals_next = rw (sum_next (lower_of 0) l i d h, sum_next (lower_of 1) l i d h, sum_next (lower_of 2) l i d h, sum_next (lower_of 3) l i d h, sum_next (lower_of 4) l i d h)
 
-  -- the sums are small
-  most_more : (k : ℕ) → total_lower k (take i l) ≤ i * 4294967295 → lower_of k (get_or l i d) ≤ 4294967295 → total_lower k (take (i + 1) l) ≤ (i + 1) * 4294967295
-  most_more k m e = omega (arith, sum_next (lower_of k) l i d h)
+-- ---- five sums are small
 
-  pub most_next : Most (i * 4294967295) (totals (take i l)) → Most 4294967295 (get_or l i d).lower → Most ((i + 1) * 4294967295) (totals (take (i + 1) l))
-  most_next m e =
-      record {
-        first = most_more 0 m.first e.first;
-        second = most_more 1 m.second e.second;
-        third = most_more 2 m.third e.third;
-        fourth = most_more 3 m.fourth e.fourth;
-        fifth = most_more 4 m.fifth e.fifth;
-      }
+-- before the first
+pub most_none : Most 0 (0 ∷ 0 ∷ 0 ∷ 0 ∷ 0 ∷ [])
+most_none = record { first = omega arith; second = omega arith; third = omega arith; fourth = omega arith; fifth = omega arith }
+
+-- after as many as fit a `u64`
+pub most_fits : (n i : ℕ) (sums : List ℕ) → Most n sums → n ≤ i → Most i sums
+most_fits n i sums m h =
+    record {
+      first = omega (arith, m.first);
+      second = omega (arith, m.second);
+      third = omega (arith, m.third);
+      fourth = omega (arith, m.fourth);
+      fifth = omega (arith, m.fifth);
+    }
+
+-- five MW more
+pub most_plus : (i : ℕ) (sums mw after : List ℕ) → Most (i * 4294967295) sums → (after ≡ five (sum_in sums mw)) × Most 4294967295 mw → Most ((i + 1) * 4294967295) after
+most_plus i sums mw after m e =
+    let n = e.1 in
+    rw e.0 (record {
+      first = omega (arith, m.first, n.first);
+      second = omega (arith, m.second, n.second);
+      third = omega (arith, m.third, n.third);
+      fourth = omega (arith, m.fourth, n.fourth);
+      fifth = omega (arith, m.fifth, n.fifth);
+    })

@@ -21,9 +21,9 @@ total_lower k xs = sum_of (lower_of k) xs
 abbrev pub totals : List PairLower → List ℕ
 totals xs = five (λ k. total_lower k xs)
 
--- the sum of hour k with one pair more
-abbrev pub sum_in : List ℕ → PairLower → ℕ → ℕ
-sum_in sums x k = get_or sums k 0 + lower_of k x
+-- the sum of hour k with the MW of that hour more
+abbrev pub sum_in : List ℕ → List ℕ → ℕ → ℕ
+sum_in sums mw k = get_or sums k 0 + get_or mw k 0
 
 -- each of five numbers is at most n
 pub record Most (n : ℕ) (xs : List ℕ) : Type 0 where

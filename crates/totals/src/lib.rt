@@ -1,52 +1,55 @@
 // The pairs of one right, gathered and lent as a slice of structs, and the sums over it of the lower sides, one for each hour of the session.
 #![tactic(auto)]
 
-ghost use Rattle.std.specs.Prelude.{◌≡◌, ◌+◌, ◌<◌, ◌≤◌, ◌^◌, length, take};
+ghost use Rattle.std.specs.Prelude.{◌≡◌, ◌≤◌, ◌^◌, length};
 ghost use Rattle.rules.specs.Basics.{five};
 ghost use Rattle.rules.specs.Book.{pair_limit};
 ghost use Rattle.totals.specs.Total.{Most, sum_in, totals};
 ghost use Rattle.totals.specs.Gathered.{Gathered, lower_in, total_in};
 
+use arrayvec::ArrayVec;
 use cells::Book;
 
 // As many pairs as the table of pairs holds at most.
 const MOST: usize = 512;
 
-// A pair of a right: the lower of its two sides in each hour of the session.
-#[derive(Clone, Copy)]
-struct PairLower {
-    lower: [u32; 5],
+// A pair: the lower of its two sides in each hour of the session. An `ArrayVec` fills its free places with the default.
+#[derive(Clone, Copy, Default)]
+pub struct PairLower {
+    pub lower: [u32; 5],
 }
 
-// The pairs of one right: the first `count` of the array. The scope asks for a lent slice of pair structs and for no heap.
-#[derive(Clone, Copy)]
-struct PairList {
-    pairs: [PairLower; MOST],
-    count: usize,
+impl PairLower {
+    // By the cells of a pair's row.
+    #[tactic(auto, unfolding(cells::specs::View::part, cells::specs::View::cell_from, cells::specs::Loops::rows))]
+    pub fn of_row(row: &[u32; 13]) -> Self
+        ensures { result.lower ≡ five (lower_in row.now) }
+    {
+        PairLower {
+            lower: [
+                row[3].min(row[8]),
+                row[4].min(row[9]),
+                row[5].min(row[10]),
+                row[6].min(row[11]),
+                row[7].min(row[12]),
+            ],
+        }
+    }
 }
 
 // ---- the sums over a list
 
-// A sum with one value more.
-fn plus(sum: u64, lower: u32) -> u64
-    requires { sum ≤ 2 ^ 63 }
-    ensures { (result ≡ sum + lower) × (lower ≤ 4294967295) }
-{
-    sum + lower as u64
-}
-
-// The five sums with one pair more.
-fn with_lower(sums: [u64; 5], pair: PairLower) -> [u64; 5]
+// The five sums with five MW more, hour by hour.
+pub fn plus(sums: [u64; 5], mw: [u32; 5]) -> [u64; 5]
     requires { Most (2 ^ 63) sums }
-    ensures { (result ≡ five (sum_in sums pair)) × Most 4294967295 pair.lower }
+    ensures { (result ≡ five (sum_in sums mw)) × Most 4294967295 mw }
 {
-    let lower = pair.lower;
     [
-        plus(sums[0], lower[0]),
-        plus(sums[1], lower[1]),
-        plus(sums[2], lower[2]),
-        plus(sums[3], lower[3]),
-        plus(sums[4], lower[4]),
+        sums[0] + mw[0] as u64,
+        sums[1] + mw[1] as u64,
+        sums[2] + mw[2] as u64,
+        sums[3] + mw[3] as u64,
+        sums[4] + mw[4] as u64,
     ]
 }
 
@@ -57,63 +60,25 @@ fn total_lower(list: &[PairLower]) -> [u64; 5]
 {
     let mut sums = [0u64; 5];
     for pair in list {
-        let next = with_lower(sums, *pair);
+        let next = plus(sums, pair.lower);
         sums = next;
     }
     sums
 }
 
-// The sums over the first `count` pairs of an array.
-fn total_of(list: [PairLower; MOST], count: usize) -> [u64; 5]
-    requires { count ≤ pair_limit }
-    ensures { result ≡ totals (take count list) }
-{
-    total_lower(&list[..count])
-}
-
 // ---- the pairs of one right
 
-// The lower side of pair number i in the hour at a position of the session.
-pub fn lower_at(book: &Book, i: u32, position: usize) -> u32
-    requires { (i < pair_limit) × (position < 5) }
-    ensures { result ≡ lower_in book.now i position }
+// The pairs of one right, in the order of the table: the list of records of document 01, lent without a heap.
+fn pairs_of(book: &Book, right: u32) -> ArrayVec<PairLower, MOST>
+    ensures { Gathered book.now right result.items }
 {
-    let at = cells::PAIRS.row(i) + 3 + position;
-    book[at].min(book[at + 5])
-}
-
-// Row i of the table of pairs.
-fn pair_in(book: &Book, i: u32) -> PairLower
-    requires { i < pair_limit }
-    ensures { result.lower ≡ five (lower_in book.now i) }
-{
-    let lower = [
-        lower_at(book, i, 0),
-        lower_at(book, i, 1),
-        lower_at(book, i, 2),
-        lower_at(book, i, 3),
-        lower_at(book, i, 4),
-    ];
-    PairLower { lower }
-}
-
-// The pairs of one right, in the order of the table. By number: the table is cells and no slice of structs.
-fn pairs_of(book: &Book, right: u32) -> PairList
-    ensures { Gathered book.now right result }
-{
-    let none = PairLower { lower: [0; 5] };
-    let mut pairs = [none; MOST];
-    let mut count: usize = 0;
-    let entries = cells::PAIRS.count(book);
-    for i in 0..entries {
-        if book[cells::PAIRS.row(i)] != right {
-            continue;
+    let mut list = ArrayVec::new();
+    for row in cells::PAIRS.rows(book) {
+        if row[0] == right {
+            list.push(PairLower::of_row(row));
         }
-        let pair = pair_in(book, i);
-        pairs[count] = pair;
-        count += 1;
     }
-    PairList { pairs, count }
+    list
 }
 
 // The sums of the lower sides over the pairs of one right.
@@ -121,7 +86,5 @@ pub fn sums_of(book: &Book, right: u32) -> [u64; 5]
     ensures { result ≡ five (total_in book.now right) }
 {
     let list = pairs_of(book, right);
-    let pairs = list.pairs;
-    let count = list.count;
-    total_of(pairs, count)
+    total_lower(list.as_slice())
 }

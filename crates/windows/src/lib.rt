@@ -29,20 +29,20 @@ struct Gates {
     hour: u16,
 }
 
-#[tactic(auto, using(std::proofs::lemmas::Bool::Decides::nat_tests), unfolding(rules::specs::Windows::gate_hour, rules::specs::Windows::opens))]
-impl Gates {
-    fn of(session: DaySession) -> Self
-        ensures weekday { result.weekday ≡ session.day.weekday }
-        ensures model { result.model ≡ session.model }
-        ensures hour { result.hour ≡ first_hour session.day.hours session.model session.session.0 }
-    {
+impl From<DaySession> for Gates {
+    ghost from_gives = { λ session gates. gates ≡ record { weekday = session.day.weekday; model = session.model; hour = first_hour session.day.hours session.model session.session.0 } };
+
+    fn from(session: DaySession) -> Gates {
         Gates {
             weekday: session.day.weekday,
             model: session.model,
             hour: session.first_number(),
         }
     }
+}
 
+#[tactic(auto, using(std::proofs::lemmas::Bool::Decides::nat_tests), unfolding(rules::specs::Windows::gate_hour, rules::specs::Windows::opens))]
+impl Gates {
     // The hour whose gates hold: on a Tuesday the one-hour sessions after 21 take those of 21.
     fn gate_hour(self) -> u16
         ensures { result ≡ gate_hour self.weekday self.model self.hour }
@@ -110,7 +110,7 @@ pub fn bid_timing(session: DaySession, time: u32) -> Timing
     if is_held(session.day.weekday, time) {
         Timing::Early
     } else {
-        Gates::of(session).timing(BIDS_CLOSE, time)
+        Gates::from(session).timing(BIDS_CLOSE, time)
     }
 }
 
@@ -118,7 +118,7 @@ pub fn bid_timing(session: DaySession, time: u32) -> Timing
 pub fn nomination_timing(session: DaySession, time: u32) -> Timing
     ensures { result ≡ nomination_timing session.day.hours session.day.weekday session.model session.session.0 time }
 {
-    Gates::of(session).timing(NOMINATIONS_CLOSE, time)
+    Gates::from(session).timing(NOMINATIONS_CLOSE, time)
 }
 
 // Offers close with the bids of the session that holds the hour.
@@ -127,7 +127,7 @@ pub fn offer_timing(day: Day, model: u32, hour: Hour, time: u32) -> Timing
     ensures { result ≡ offer_timing day.hours day.weekday model hour.0 time }
 {
     let session = day.session(model, day.session_of(model, hour));
-    window_timing(OFFERS_OPEN, Gates::of(session).gate(BIDS_CLOSE), time)
+    window_timing(OFFERS_OPEN, Gates::from(session).gate(BIDS_CLOSE), time)
 }
 
 // A matching is never late.
@@ -135,7 +135,7 @@ pub fn offer_timing(day: Day, model: u32, hour: Hour, time: u32) -> Timing
 pub fn matching_timing(session: DaySession, time: u32) -> Timing
     ensures { result ≡ matching_timing session.day.hours session.day.weekday session.model session.session.0 time }
 {
-    if time < Gates::of(session).gate(MATCHING_OPENS) {
+    if time < Gates::from(session).gate(MATCHING_OPENS) {
         Timing::Early
     } else {
         Timing::Within

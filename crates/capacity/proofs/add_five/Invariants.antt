@@ -6,7 +6,4 @@ use Rattle.stores.specs.Bids.{added_five, added_next}
 use Rattle.capacity.proofs.add_five.Given as goal
 
 abbrev pub invariant-loop-k : goal.invariant-loop-k
-invariant-loop-k l = (l.k ≤ 5) × (added_five l.at l.mw l.initial.book ≡ repeated (added_next l.at l.mw) (5 - l.k) l.k l.book)
-
-abbrev pub decreases-loop-k : goal.decreases-loop-k
-decreases-loop-k l = 5 - l.k
+invariant-loop-k l = (l.k ≤ 5) × (added_five l.fn.at l.fn.mw l.initial.book ≡ repeated (added_next l.fn.at l.fn.mw) (5 - l.k) l.k l.book)

@@ -9,19 +9,19 @@ pub hours-init : goal.hours-init
 unfolding shortage_in
 hours-init c = (search rules, refl, each_start _ _ _)
 
-pub profiles-init : goal.profiles-init
+pub loop-profile-init : goal.loop-profile-init
 unfolding try_hour
-profiles-init c = let at = c.hours in
+loop-profile-init c = let at = c.hours in
     (search rules, at.invariant.1, at.invariant.2 ∙ each_next _ _ _ _ c.hours-test.true ∙ told_false _ _ c.is_short.ensures c.if-is_short.false ∙ rw (← c.profile_count-profiles.ensures.count) (each_start _ _ _))
 
-pub profiles-preserved : goal.profiles-preserved
+pub loop-profile-preserved : goal.loop-profile-preserved
 unfolding try_profile
-profiles-preserved c = let at = c.profiles in
-    (search rules, at.invariant.1, at.invariant.2 ∙ each_next _ _ _ _ c.profiles-test.true ∙ told_false _ _ c.profile_short.ensures c.if-profile_short.false)
+loop-profile-preserved c = let at = c.loop-profile in
+    (search rules, at.invariant.1, at.invariant.2 ∙ each_next _ _ _ _ c.loop-profile-test.true ∙ told_false _ _ c.profile_short.ensures c.if-profile_short.false)
 
 pub hours-preserved : goal.hours-preserved
-hours-preserved c = let at = c.profiles in
-    (search rules, at.invariant.1, at.invariant.2 ∙ each_done _ _ _ _ c.profiles-test.false)
+hours-preserved c = let at = c.loop-profile in
+    (search rules, at.invariant.1, at.invariant.2 ∙ each_done _ _ _ _ c.loop-profile-test.false)
 
 pub returns-after-hours : goal.returns-after-hours
 returns-after-hours c = let at = c.hours in
@@ -34,5 +34,5 @@ returns-then-is_short c = let at = c.hours in
 
 pub returns-then-profile_short : goal.returns-then-profile_short
 unfolding try_profile
-returns-then-profile_short c = let at = c.profiles in
-    sym (at.invariant.2 ∙ each_next _ _ _ _ c.profiles-test.true ∙ told_true _ _ c.profile_short.ensures c.if-profile_short.true)
+returns-then-profile_short c = let at = c.loop-profile in
+    sym (at.invariant.2 ∙ each_next _ _ _ _ c.loop-profile-test.true ∙ told_true _ _ c.profile_short.ensures c.if-profile_short.true)

@@ -11,10 +11,10 @@ pub loop-turn-init : goal.loop-turn-init
 loop-turn-init g c = rw c.start-progress.ensures (none _ c.requires)
 
 pub answer_next-requires : goal.answer_next-requires
-answer_next-requires g c = (answering _ (sym c.what_next-next.ensures ∙ c.in-Take.is)).fits
+answer_next-requires g c = let h = answering _ (sym c.what_next-next.ensures ∙ c.in-Take.is) in omega arith
 
 pub read_more-requires : goal.read_more-requires
-read_more-requires g c = few_unread _ (sym c.what_next-next.ensures ∙ c.in-Read.is)
+read_more-requires g c = let few = few_unread _ (omega arith) (sym c.what_next-next.ensures ∙ c.in-Read.is) in omega arith
 
 pub loop-turn-preserved : goal.loop-turn-preserved
 loop-turn-preserved g c =
@@ -29,6 +29,7 @@ loop-turn-preserved g c =
 pub returns-in-End : goal.returns-in-End
 returns-in-End g c =
     record {
+      room_for_line = omega arith;
       progress = c.loop-turn.progress;
       turns = c.loop-turn._turn;
       taken = c.loop-turn.invariant;
@@ -40,6 +41,7 @@ returns-in-End g c =
 pub returns : goal.returns
 returns g c =
     record {
+      room_for_line = omega arith;
       progress = c.loop-turn.progress;
       turns = c.loop-turn._turn;
       taken = c.loop-turn.invariant;

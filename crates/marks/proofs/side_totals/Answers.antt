@@ -1,16 +1,27 @@
 -- `marks::side_totals` meets its contract.
 -- Assumes nothing.
-use native.Mathlib.Omega.{arith}
-use borrow.Author.Rules.{rules}
-use Rattle.marks.proofs.Sums.{zeros, sum_start, sum_next, sum_done}
+use Rattle.std.proofs.Common.{◌≤◌, length, arith}
+use Rattle.rules.specs.Book.{pair_limit}
+use Rattle.cells.specs.Layout.{PAIRS}
+use Rattle.cells.proofs.Entries.{few_rows}
+use Rattle.totals.proofs.Sums.{most_fits}
+use Rattle.marks.proofs.Sums.{all_summed, none_summed, none_added, share_added}
+use Rattle.marks.proofs.side_totals.Goals.{then-row-right, else-row-right}
 use Rattle.marks.proofs.side_totals.Goals as goal
 
-pub loop-i-init : goal.loop-i-init
-loop-i-init c = (omega (arith, c.count-count.ensures), (λ hour l. omega (arith, zeros hour l), λ hour l. sum_start _ _ _ hour _ c.count-count.ensures _ (zeros hour l)))
+pub loop-row-init : goal.loop-row-init
+loop-row-init c = none_summed _ _ _
 
-pub loop-i-preserved : goal.loop-i-preserved
-loop-i-preserved c = let a = c.with_share-next.ensures in
-    (search rules, (a.bounded, λ hour l. sum_next _ _ _ hour _ _ _ _ (c.loop-i.invariant.1.1 hour l) _ c.loop-i-test.true (a.sums_are hour l)))
+pub plus-next-requires : goal.plus-next-requires
+plus-next-requires c =
+    let few : length c.rows-row-items.result.now ≤ pair_limit = rw c.rows-row-items.ensures (few_rows c.args.book.now PAIRS 13 pair_limit) in
+    most_fits _ _ _ c.loop-row.invariant.most (omega arith)
+
+pub loop-row-preserved : goal.loop-row-preserved
+loop-row-preserved c = elim c.if-row-right.branch [
+  | then-row-right w ↦ rw w.sums-is (share_added _ _ _ _ _ c.loop-row-test.true c.loop-row.invariant w.if-row-right.true _ _ w.side_mw.ensures w.plus-next.ensures)
+  | else-row-right w ↦ rw w.sums-is (none_added _ _ _ _ _ c.loop-row-test.true c.loop-row.invariant w.if-row-right.false)
+]
 
 pub returns : goal.returns
-returns c = record { totals_are = λ hour l. sum_done _ _ _ hour _ _ _ _ (c.loop-i.invariant.1.1 hour l) c.loop-i-test.false }
+returns c = all_summed _ _ _ _ _ c.rows-row-items.ensures c.loop-row-test.false c.loop-row.invariant

@@ -1,28 +1,21 @@
--- `matching::count_rights` meets its contract: the whole count is that of the rows passed and that of the rows left.
+-- `matching::count_rights` meets its contract.
 -- Assumes nothing.
-use mathlib.Core.Path.{refl, sym, ◌∙◌}
-use Prim.Native.Nat.{◌≤◌}
-use native.Mathlib.Nat.{zero-add, add-zero, add_assoc}
-use native.Mathlib.Omega.{arith}
-use Rattle.cells.proofs.Turns.{each_start, each_next, each_done}
-use Rattle.matching.specs.Work.{tally}
-use Rattle.matching.proofs.Counts.{one_at_most, count_is}
+use Rattle.std.proofs.Common.{◌≡◌, length, ◌∙◌, rules, tests, arith}
+use Rattle.std.specs.List.{filter}
+use Rattle.std.proofs.lemmas.Iterator.{YieldsList-from_slice}
+use Rattle.std.proofs.lemmas.Iterator.Consumers.{YieldsList-at, YieldsList-from_filter, count_from_yields_List}
+use Rattle.matching.proofs.Counts.{passes, count_is, count_few}
+use Rattle.matching.proofs.count_rights.Goals.{After-count-count}
 use Rattle.matching.proofs.count_rights.Goals as goal
 
-pub loop-i-init : goal.loop-i-init
-loop-i-init c = (omega (arith, c.count-rights.ensures), rw (c.count-rights.ensures, zero-add _) (count_is _ _ _ ∙ each_start _ _ _))
-
-pub loop-i-preserved : goal.loop-i-preserved
-unfolding tally
-loop-i-preserved c =
-    let few_more : c.count_right-count.result ≤ 1 = (rw c.count_right-count.ensures (one_at_most _ _ _)) in
-    let few = few_more in
-    (omega arith, c.loop-i.invariant.1 ∙ rw (each_next _ _ _ _ c.loop-i-test.true, c.count_right-count.ensures, add_assoc) refl)
+counted : (c : After-count-count) → c.count-count.result ≡ length (filter (passes c.args.direction c.args.session.0) c.rows-rows.result.now)
+counted c = count_from_yields_List _ _ c.count-count.ensures.ran
+    (YieldsList-from_filter _ (passes c.args.direction c.args.session.0) (YieldsList-at c.filter.ensures.source (YieldsList-from_slice c.rows-rows.result.now c.iter.ensures.rest)) c.filter.ensures.closure (λ x b q k. (search rules, search (rules, tests))))
 
 pub returns : goal.returns
-returns c = sym (c.loop-i.invariant.1 ∙ rw (each_done _ _ _ _ c.loop-i-test.false, add-zero _))
+returns c = counted (goal.at.returns c).After-count-count ∙ count_is _ _ _ c.rows-rows.ensures
 
-pub overflow_add-count : goal.overflow_add-count
-overflow_add-count c =
-    let few_more : c.count_right-count.result ≤ 1 = (rw c.count_right-count.ensures (one_at_most _ _ _)) in
-    let few = few_more in omega arith
+pub overflow_cast-result : goal.overflow_cast-result
+overflow_cast-result c =
+    let all = counted (goal.at.overflow_cast-result c).After-count-count ∙ count_is _ _ _ c.rows-rows.ensures in
+    record { fits = omega (arith, all, count_few c.args.direction c.args.session.0 c.args.book.now) }

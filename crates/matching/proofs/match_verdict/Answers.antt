@@ -1,39 +1,42 @@
 -- `matching::match_verdict` meets its contract: each test passed leaves fewer numbers, and one that holds is the first.
 -- Assumes nothing.
-use mathlib.Core.Path.{◌≡◌, refl, sym, subst, ◌∙◌}
+use Rattle.std.proofs.Common.{◌≡◌, [], ◌∷◌, sym, ap, ◌∙◌}
 use Rattle.std.proofs.lemmas.Result.{err_from_is_err_and}
-use Rattle.rules.specs.Refusals.{refuses, timing_of, field, clock, unknown, cycle}
-use Rattle.rules.specs.Details.{refusal}
-use Rattle.rules.specs.declared.Refusal.TheVariants.{Field, Clock, Unknown, Cycle}
-use Rattle.answers.proofs.Laws.{pass, refuse, window_refused, window_passed, none_left, told}
+use Rattle.rules.specs.Refusals.{timing_of}
+use Rattle.rules.specs.Windows.{matching_timing}
 use Rattle.cells.specs.View.{book_of}
-use Rattle.matching.proofs.Tests.{match_left, known_match}
+use Rattle.answers.proofs.Laws.{Left, window_refused, window_passed}
+use Rattle.matching.specs.Work.{match_of}
+use Rattle.matching.proofs.Tests.{field_refused, clock_refused, unknown_refused, known, matched_refused, granted}
+use Rattle.matching.proofs.match_verdict.Goals.{After-window_verdict}
 use Rattle.matching.proofs.match_verdict.Goals as goal
 
 pub returns-then-match_field : goal.returns-then-match_field
-unfolding refuses refusal field
-returns-then-match_field c = refuse Field (match_left (book_of c.args.book.now) c.args.time c.args.direction c.args.session.0) (told c.match_field.ensures c.if-match_field.true) refl refl
+returns-then-match_field c = field_refused _ _ _ _ (sym c.if-match_field.ensures)
 
 pub returns-then-before_clock : goal.returns-then-before_clock
-unfolding refuses refusal field clock
-returns-then-before_clock c = refuse Clock (pass (match_left (book_of c.args.book.now) c.args.time c.args.direction c.args.session.0) (told c.match_field.ensures c.if-match_field.false)) (told c.before_clock.ensures c.if-before_clock.true) refl refl
+returns-then-before_clock c = clock_refused _ _ _ _ (sym c.if-match_field.ensures) (sym c.if-before_clock.ensures)
 
-pub returns-then-match_unknown : goal.returns-then-match_unknown
-unfolding refuses refusal field clock unknown
-returns-then-match_unknown c = refuse Unknown (pass (pass (match_left (book_of c.args.book.now) c.args.time c.args.direction c.args.session.0) (told c.match_field.ensures c.if-match_field.false)) (told c.before_clock.ensures c.if-before_clock.false)) (told c.match_unknown.ensures c.if-match_unknown.true) refl refl
+pub returns-in_default : goal.returns-in_default
+returns-in_default c = unknown_refused _ _ _ _ (sym c.if-match_field.ensures) (sym c.if-before_clock.ensures) c.in_default.ensures
+
+-- up to the window
+left : (c : After-window_verdict) → Left (book_of c.args.book.now) (match_of c.args.call) (16 ∷ 8 ∷ 12 ∷ [])
+left c = known _ _ _ _ (sym c.if-match_field.ensures) (sym c.if-before_clock.ensures) c.in-Some.ensures.0
+
+at : (c : After-window_verdict) → c.matching_timing.result ≡ timing_of (book_of c.args.book.now) (match_of c.args.call)
+unfolding timing_of
+at c = c.matching_timing.ensures ∙ ap (λ known. matching_timing known.day.hours known.day.weekday known.model known.session.0 c.args.call.time) c.in-Some.ensures.1
 
 pub returns-in_err-window_verdict : goal.returns-in_err-window_verdict
-unfolding refuses field clock unknown timing_of
 returns-in_err-window_verdict c = let p = err_from_is_err_and c.from_residual.result c.from_residual.ensures.1 in
-    rw (p.1, p.2) (window_refused (pass (pass (pass (match_left (book_of c.args.book.now) c.args.time c.args.direction c.args.session.0) (told c.match_field.ensures c.if-match_field.false)) (told c.before_clock.ensures c.if-before_clock.false)) (told c.match_unknown.ensures c.if-match_unknown.false)) (rw ((known_match _ _ _ (told c.match_unknown.ensures c.if-match_unknown.false)).model_is, ← c.direction_at-model.ensures.model) c.timing.ensures) c.in_err-window_verdict.ensures)
+    let w = (goal.at.returns-in_err-window_verdict c).After-window_verdict in
+    rw (p.1, p.2) (window_refused (left w) (at w) c.in_err-window_verdict.ensures)
 
 pub returns-then-is_matched : goal.returns-then-is_matched
-unfolding refuses refusal field clock unknown timing_of cycle
-returns-then-is_matched c = refuse Cycle (window_passed (pass (pass (pass (match_left (book_of c.args.book.now) c.args.time c.args.direction c.args.session.0) (told c.match_field.ensures c.if-match_field.false)) (told c.before_clock.ensures c.if-before_clock.false)) (told c.match_unknown.ensures c.if-match_unknown.false)) (rw ((known_match _ _ _ (told c.match_unknown.ensures c.if-match_unknown.false)).model_is, ← c.direction_at-model.ensures.model) c.timing.ensures) c.in_ok-window_verdict.ensures) (told c.is_matched.ensures c.if-is_matched.true) refl refl
-
-pub direction_at-model-requires : goal.direction_at-model-requires
-direction_at-model-requires c = (known_match _ _ _ (told c.match_unknown.ensures c.if-match_unknown.false)).direction
+returns-then-is_matched c = let w = (goal.at.returns-then-is_matched c).After-window_verdict in
+    matched_refused (window_passed (left w) (at w) c.in_ok-window_verdict.ensures) (sym c.if-is_matched.ensures)
 
 pub returns : goal.returns
-unfolding refuses field clock unknown timing_of cycle
-returns c = none_left (pass (window_passed (pass (pass (pass (match_left (book_of c.args.book.now) c.args.time c.args.direction c.args.session.0) (told c.match_field.ensures c.if-match_field.false)) (told c.before_clock.ensures c.if-before_clock.false)) (told c.match_unknown.ensures c.if-match_unknown.false)) (rw ((known_match _ _ _ (told c.match_unknown.ensures c.if-match_unknown.false)).model_is, ← c.direction_at-model.ensures.model) c.timing.ensures) c.in_ok-window_verdict.ensures) (told c.is_matched.ensures c.if-is_matched.false))
+returns c = let w = (goal.at.returns c).After-window_verdict in
+    granted (window_passed (left w) (at w) c.in_ok-window_verdict.ensures) (sym c.if-is_matched.ensures)

@@ -1,6 +1,5 @@
 -- `offers::offer` meets its contract.
 -- Assumes nothing.
-use mathlib.Core.Path.{◌∙◌}
 use Rattle.std.proofs.lemmas.Result.{err_from_is_err_and}
 use Rattle.answers.proofs.Laws.{refused}
 use Rattle.offers.proofs.Offers.{offers, offer_answers}
@@ -11,5 +10,5 @@ returns-in_err-place c = let p = err_from_is_err_and c.from_residual.result c.fr
 
 pub returns : goal.returns
 returns c = let clear = c.in_ok-place.ensures in
-    offer_answers _ _ (offers c.args.capacity c.args.time c.args.hour.0 c.args.mw) (rw (← clear.row, ← clear.hour) c.in_ok-place.place.in_tables) clear.clear
+    offer_answers _ _ (offers c.args.call.capacity c.args.call.time c.args.call.hour.0 c.args.call.mw) (rw (← clear.row, ← clear.hour) c.in_ok-place.place.in_tables) clear.clear
     (rw (clear.row, clear.hour) at c.place_offer.ensures)

@@ -1,35 +1,51 @@
 -- `offers::offer_verdict` meets its contract: each test passed leaves fewer numbers, and one that holds is the first.
 -- Assumes nothing.
-use mathlib.Core.Path.{refl, subst, ◌∙◌}
+use Rattle.std.proofs.Common.{◌≡◌, true, ◌||◌, [], ◌∷◌, Some, sym, ◌∙◌}
 use Rattle.std.proofs.lemmas.Result.{err_from_is_err_and}
-use Rattle.rules.specs.Details.{refusal}
-use Rattle.rules.specs.Refusals.{hour_unknown}
-use Rattle.rules.specs.declared.Refusal.TheVariants.{Field, Clock, Unknown}
-use Rattle.rules.proofs.Bools.{or_left}
+use Rattle.rules.specs.Refusals.{hour_unknown, timing_of}
 use Rattle.cells.specs.View.{book_of}
-use Rattle.answers.specs.Capacities.{Finds}
-use Rattle.answers.proofs.Laws.{pass, refuse, window_refused, window_passed, none_left, told}
-use Rattle.offers.proofs.Offers.{offer_left, field_is, clock_is, unknown_is, timing_is}
+use Rattle.answers.specs.Capacities.{Finds, capacity_unknown}
+use Rattle.answers.proofs.Laws.{Left, window_refused, window_passed, none_left}
+use Rattle.offers.specs.Work.{offer_call}
+use Rattle.offers.proofs.Offers.{field_refused, clock_refused, unknown_refused, known, timing_is, found_or, none_or}
+use Rattle.offers.proofs.offer_verdict.Goals.{After-window_verdict}
 use Rattle.offers.proofs.offer_verdict.Goals as goal
 
 pub returns-then-offer_field : goal.returns-then-offer_field
-unfolding refusal
-returns-then-offer_field c = refuse Field (offer_left (book_of c.args.book.now) c.args.capacity c.args.time c.args.hour.0 c.args.mw) (field_is (book_of c.args.book.now) c.args.capacity c.args.time c.args.hour.0 c.args.mw ∙ told c.offer_field.ensures c.if-offer_field.true) refl refl
+returns-then-offer_field c = field_refused _ c.args.call.capacity _ _ _ (sym c.if-offer_field.ensures)
 
 pub returns-then-before_clock : goal.returns-then-before_clock
-unfolding refusal
-returns-then-before_clock c = refuse Clock (pass (offer_left (book_of c.args.book.now) c.args.capacity c.args.time c.args.hour.0 c.args.mw) (field_is (book_of c.args.book.now) c.args.capacity c.args.time c.args.hour.0 c.args.mw ∙ told c.offer_field.ensures c.if-offer_field.false)) (clock_is (book_of c.args.book.now) c.args.capacity c.args.time c.args.hour.0 c.args.mw ∙ told c.before_clock.ensures c.if-before_clock.true) refl refl
+returns-then-before_clock c = clock_refused _ c.args.call.capacity _ _ _ (sym c.if-offer_field.ensures) (sym c.if-before_clock.ensures)
 
-pub returns-in_default : goal.returns-in_default
-unfolding refusal
-returns-in_default c = refuse Unknown (pass (pass (offer_left (book_of c.args.book.now) c.args.capacity c.args.time c.args.hour.0 c.args.mw) (field_is (book_of c.args.book.now) c.args.capacity c.args.time c.args.hour.0 c.args.mw ∙ told c.offer_field.ensures c.if-offer_field.false)) (clock_is (book_of c.args.book.now) c.args.capacity c.args.time c.args.hour.0 c.args.mw ∙ told c.before_clock.ensures c.if-before_clock.false)) (unknown_is (book_of c.args.book.now) c.args.capacity c.args.time c.args.hour.0 c.args.mw ∙ subst (Finds (book_of c.args.book.now) c.args.capacity c.args.hour) c.in_default.is c.place_in.ensures) refl refl
+pub returns-in_err-place : goal.returns-in_err-place
+returns-in_err-place c = let p = err_from_is_err_and c.from_residual.result c.from_residual.ensures.1 in
+    let none = none_or _ _ _ c.in_err-place.ensures.value in
+    let missing : (capacity_unknown (book_of c.args.book.now) c.args.call.capacity || hour_unknown (book_of c.args.book.now) c.args.call.hour.0) ≡ true = rw none.0 at c.place_in.ensures in
+    rw (p.1, p.2, none.1) (unknown_refused _ c.args.call.capacity _ _ _ (sym c.if-offer_field.ensures) (sym c.if-before_clock.ensures) missing)
 
-pub model_of-model-requires : goal.model_of-model-requires
-model_of-model-requires c = or_left _ (hour_unknown (book_of c.args.book.now) c.args.hour.0) (subst (Finds (book_of c.args.book.now) c.args.capacity c.args.hour) c.in-Some.is c.place_in.ensures).0
+pub returns-in_err-model : goal.returns-in_err-model
+returns-in_err-model c = let p = err_from_is_err_and c.from_residual-in_err-model.result c.from_residual-in_err-model.ensures.1 in
+    let none = none_or _ _ _ c.in_err-model.ensures.value in
+    let missing : capacity_unknown (book_of c.args.book.now) c.args.call.capacity ≡ true = rw none.0 at c.model_of.ensures in
+    rw (p.1, p.2, none.1) (unknown_refused _ c.args.call.capacity _ _ _ (sym c.if-offer_field.ensures) (sym c.if-before_clock.ensures) (rw missing))
+
+-- up to the window
+there : (c : After-window_verdict) → Finds (book_of c.args.book.now) c.args.call.capacity c.args.call.hour (Some c.in_ok-place.place)
+there c = rw (found_or _ _ _ c.in_ok-place.ensures.value) at c.place_in.ensures
+
+left : (c : After-window_verdict) → Left (book_of c.args.book.now) (offer_call c.args.call) (16 ∷ 8 ∷ [])
+left c = known _ c.args.call.capacity _ _ _ (sym c.if-offer_field.ensures) (sym c.if-before_clock.ensures) (there c).0
+
+at : (c : After-window_verdict) → c.offer_timing.result ≡ timing_of (book_of c.args.book.now) (offer_call c.args.call)
+unfolding book_of
+at c = let found = rw (found_or _ _ _ c.in_ok-model.ensures.value) at c.model_of.ensures in
+    rw (c.day-day.ensures.hours, c.day-day.ensures.weekday, found) at c.offer_timing.ensures ∙ timing_is (book_of c.args.book.now) c.args.call.capacity c.args.call.time c.args.call.hour.0 c.args.call.mw
 
 pub returns-in_err-window_verdict : goal.returns-in_err-window_verdict
-returns-in_err-window_verdict c = let p = err_from_is_err_and c.from_residual.result c.from_residual.ensures.1 in
-    rw (p.1, p.2) (window_refused (pass (pass (pass (offer_left (book_of c.args.book.now) c.args.capacity c.args.time c.args.hour.0 c.args.mw) (field_is (book_of c.args.book.now) c.args.capacity c.args.time c.args.hour.0 c.args.mw ∙ told c.offer_field.ensures c.if-offer_field.false)) (clock_is (book_of c.args.book.now) c.args.capacity c.args.time c.args.hour.0 c.args.mw ∙ told c.before_clock.ensures c.if-before_clock.false)) (unknown_is (book_of c.args.book.now) c.args.capacity c.args.time c.args.hour.0 c.args.mw ∙ (subst (Finds (book_of c.args.book.now) c.args.capacity c.args.hour) c.in-Some.is c.place_in.ensures).0)) (rw c.model_of-model.ensures at c.timing.ensures ∙ timing_is (book_of c.args.book.now) c.args.capacity c.args.time c.args.hour.0 c.args.mw) c.in_err-window_verdict.ensures)
+returns-in_err-window_verdict c = let p = err_from_is_err_and c.from_residual-in_err-window_verdict.result c.from_residual-in_err-window_verdict.ensures.1 in
+    let w = (goal.at.returns-in_err-window_verdict c).After-window_verdict in
+    rw (p.1, p.2) (window_refused (left w) (at w) c.in_err-window_verdict.ensures)
 
 pub returns : goal.returns
-returns c = record { clear = none_left (window_passed (pass (pass (pass (offer_left (book_of c.args.book.now) c.args.capacity c.args.time c.args.hour.0 c.args.mw) (field_is (book_of c.args.book.now) c.args.capacity c.args.time c.args.hour.0 c.args.mw ∙ told c.offer_field.ensures c.if-offer_field.false)) (clock_is (book_of c.args.book.now) c.args.capacity c.args.time c.args.hour.0 c.args.mw ∙ told c.before_clock.ensures c.if-before_clock.false)) (unknown_is (book_of c.args.book.now) c.args.capacity c.args.time c.args.hour.0 c.args.mw ∙ (subst (Finds (book_of c.args.book.now) c.args.capacity c.args.hour) c.in-Some.is c.place_in.ensures).0)) (rw c.model_of-model.ensures at c.timing.ensures ∙ timing_is (book_of c.args.book.now) c.args.capacity c.args.time c.args.hour.0 c.args.mw) c.in_ok-window_verdict.ensures); row = (subst (Finds (book_of c.args.book.now) c.args.capacity c.args.hour) c.in-Some.is c.place_in.ensures).1.0; hour = (subst (Finds (book_of c.args.book.now) c.args.capacity c.args.hour) c.in-Some.is c.place_in.ensures).1.1 }
+returns c = let w = (goal.at.returns c).After-window_verdict in
+    record { clear = none_left (window_passed (left w) (at w) c.in_ok-window_verdict.ensures); row = (there w).1.0; hour = (there w).1.1 }

@@ -1,7 +1,6 @@
 -- `rights::book_right` meets its contract.
 -- Assumes nothing.
-use Prim.Native.Nat.{◌+◌, ◌*◌}
-use mathlib.Core.Path.{◌≡◌, sym, ◌∙◌}
+use mathlib.Core.Path.{sym, ◌∙◌}
 use native.Mathlib.Omega.{arith}
 use Rattle.rights.proofs.Rights.{has_room, opened_books, below, raised_books}
 use borrow.Author.Rules.{rules}
@@ -23,6 +22,5 @@ add_five-requires c = let l = below _ _ _ _ _ _ (sym c.right_by_entry.ensures �
     omega arith
 
 pub returns : goal.returns
-returns c =
-    let at : c.row.result + 3 ≡ 3382 + c.in-Some.i * 8 = (let e = c.row.ensures.begins in omega arith) in
-    rw (c.add_five.ensures, at) (raised_books _ _ _ _ _ _ _ (sym c.right_by_entry.ensures ∙ c.in-Some.is) c.cells_in.ensures.count (search rules))
+returns c = let begins = c.row.ensures.begins in
+    raised_books _ _ _ _ _ _ _ (sym c.right_by_entry.ensures ∙ c.in-Some.is) c.cells_in.ensures.count (search rules) c.add_five.ensures (omega arith)

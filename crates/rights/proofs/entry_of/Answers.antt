@@ -1,7 +1,6 @@
 -- `rights::entry_of` meets its contract.
 -- Assumes nothing.
 use mathlib.Core.Path.{sym, ap, ◌∙◌}
-use Rattle.rules.specs.Book.{right_limit}
 use Rattle.rights.specs.Work.{entry_of, entry_in}
 use Rattle.rights.proofs.entry_of.Goals as goal
 
@@ -9,10 +8,10 @@ pub returns-then-not-is_full : goal.returns-then-not-is_full
 unfolding entry_in
 returns-then-not-is_full c = rw (← c.is_full.ensures, c.if-not-is_full.true)
 
-pub returns-in_default : goal.returns-in_default
+pub returns-in-None : goal.returns-in-None
 unfolding entry_in
-returns-in_default c = rw (← c.is_full.ensures, c.if-not-is_full.false) (ap entry_of (sym c.in_default.is ∙ c.right_for.ensures))
+returns-in-None c = rw (← c.is_full.ensures, c.if-not-is_full.false) (ap entry_of (sym c.in-None.is ∙ c.right_for.ensures))
 
-pub returns : goal.returns
+pub returns-in-Some : goal.returns-in-Some
 unfolding entry_in
-returns c = rw (← c.is_full.ensures, c.if-not-is_full.false) (ap entry_of (sym c.in-Some.is ∙ c.right_for.ensures))
+returns-in-Some c = rw (← c.is_full.ensures, c.if-not-is_full.false) (ap entry_of (sym c.in-Some.is ∙ c.right_for.ensures))

@@ -1,20 +1,29 @@
 -- `rights::standing` meets its contract.
 -- Assumes nothing.
-use Rattle.std.proofs.Common.{refl, sym, ◌∙◌, arith, rules, tests}
-use Rattle.std.proofs.lemmas.Iterator.{YieldsList-from_range}
-use Rattle.std.proofs.lemmas.Iterator.Search.{find_from_yields_List}
+use Rattle.std.proofs.Common.{◌≡◌, sym, ◌∙◌, rules, tests, arith}
+use Rattle.std.proofs.lemmas.Iterator.{YieldsList-from_slice}
+use Rattle.std.proofs.lemmas.Iterator.Search.{position_from_yields_List}
 use Rattle.rules.specs.Bids.{is_right_of}
-use Rattle.cells.specs.View.{right_at}
-use Rattle.cells.proofs.Finds.{first_found}
+use Rattle.cells.specs.View.{right_read}
 use Rattle.rights.specs.Work.{standing_right}
+use Rattle.rights.proofs.Rights.{row_found, found_at}
+use Rattle.rights.proofs.standing.Goals.{After-position}
 use Rattle.rights.proofs.standing.Goals as goal
 
-pub returns : goal.returns
-unfolding standing_right
-returns c =
+found : (c : After-position) → let key = c.args.key in c.position.result ≡ standing_right c.args.book.now key.holder key.direction key.session.0
+unfolding is_right_of
+found c = let key = c.args.key in
+    row_found c.args.book.now key.holder key.direction key.session.0 c.rows-rows.ensures
+    (position_from_yields_List (λ row. is_right_of key.holder key.direction key.session.0 (right_read row)) _ _ _ c.position.ensures.ran (YieldsList-from_slice _ c.iter.ensures.rest) (λ x b q k. (search rules, search (rules, tests))))
+
+pub returns-in_err-number : goal.returns-in_err-number
+returns-in_err-number c = c.from_residual.ensures ∙ sym c.in_err-number.was ∙ found (goal.at.returns-in_err-number c).After-position
+
+pub overflow_cast-result : goal.overflow_cast-result
+overflow_cast-result c =
     let key = c.args.key in
-    let test = is_right_of key.holder key.direction key.session.0 in
-    let row = right_at c.args.book.now in
-    let n = c.count-count.result in
-    rw (← c.count-count.ensures) (first_found test row n
-    (find_from_yields_List (λ i. test (row i)) _ _ _ c.find.ensures.ran (YieldsList-from_range 0 n n refl (omega arith)) (λ x b q k. search (rules, tests))))
+    let there = found_at _ _ _ _ _ (sym (found (goal.at.overflow_cast-result c).After-position) ∙ c.in_ok-number.was) in
+    record { fits = omega (arith, there.1) }
+
+pub returns : goal.returns
+returns c = sym c.in_ok-number.was ∙ found (goal.at.returns c).After-position

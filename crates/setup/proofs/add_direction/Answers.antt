@@ -1,5 +1,6 @@
 -- `setup::add_direction` meets its contract.
 -- Assumes nothing.
+use Rattle.std.proofs.Common.{rules}
 use Rattle.std.proofs.lemmas.Result.{err_from_is_err_and}
 use Rattle.answers.proofs.Laws.{refused}
 use Rattle.setup.proofs.Adding.{adds_direction_lem, room, answers_number}
@@ -8,8 +9,8 @@ use Rattle.setup.proofs.add_direction.Goals as goal
 pub returns-in_err-direction_verdict : goal.returns-in_err-direction_verdict
 returns-in_err-direction_verdict c = let p = err_from_is_err_and c.from_residual.result c.from_residual.ensures.1 in rw (p.1, p.2) (refused _ _ _ c.in_err-direction_verdict.ensures)
 
-pub add_row-requires-clause-room : goal.add_row-requires-clause-room
-add_row-requires-clause-room c = room (adds_direction_lem _ _ _ _) c.in_ok-direction_verdict.ensures
+pub add_row-requires : goal.add_row-requires
+add_row-requires c = let l = room (adds_direction_lem _ _ _ _) c.in_ok-direction_verdict.ensures in search rules
 
 pub returns : goal.returns
 returns c = answers_number (adds_direction_lem _ _ _ _) c.in_ok-direction_verdict.ensures c.cells_in.ensures c.add_row.ensures.number c.add_row.ensures.cells

@@ -1,22 +1,19 @@
 -- `setup::direction_taken` meets its contract.
 -- Assumes nothing.
-use Rattle.std.proofs.Common.{refl, ◌∙◌, arith, rules, tests}
-use Rattle.std.proofs.lemmas.Iterator.{YieldsList-from_range}
+use Rattle.std.proofs.Common.{rules, tests, ◌∙◌, refl}
+use Rattle.std.proofs.lemmas.Iterator.{YieldsList-from_slice}
 use Rattle.std.proofs.lemmas.Iterator.Search.{any_from_yields_List}
 use Rattle.rules.specs.Setup.{direction_taken}
-use Rattle.cells.specs.View.{book_of, directions_in, direction_at}
-use Rattle.cells.proofs.Finds.{any_found}
+use Rattle.cells.specs.View.{direction_read}
+use Rattle.cells.proofs.Entries.{directions_are}
 use Rattle.setup.specs.Work.{clashes}
 use Rattle.setup.proofs.Searches.{taken_any}
 use Rattle.setup.proofs.direction_taken.Goals as goal
 
 pub returns : goal.returns
-unfolding book_of directions_in direction_taken clashes
+unfolding direction_taken clashes
 returns c =
     let new = c.args.direction in
     let test = clashes new.out new.into new.model in
-    let row = direction_at c.args.book.now in
-    let n = c.count-count.result in
-    rw (← c.count-count.ensures) (any_found test row n
-    (any_from_yields_List (λ i. test (row i)) _ _ _ c.any.ensures.ran (YieldsList-from_range 0 n n refl (omega arith)) (λ x b q k. search (rules, tests)))
-    ∙ taken_any test (direction_taken new.out new.into new.model) refl (λ x xs. refl) _)
+    any_from_yields_List (λ row. test (direction_read row)) _ _ _ c.any.ensures.ran (YieldsList-from_slice c.rows-rows.result.now c.iter.ensures.rest) (λ x b q k. (search rules, search (rules, tests)))
+    ∙ taken_any direction_read test (direction_taken new.out new.into new.model) refl (λ x xs. refl) (directions_are c.args.book.now) c.rows-rows.ensures

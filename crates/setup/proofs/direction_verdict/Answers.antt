@@ -1,29 +1,28 @@
 -- `setup::direction_verdict` meets its contract: test by test, what is left to test.
 -- Assumes nothing.
-use mathlib.Core.Path.{refl, ◌∙◌}
-use Rattle.rules.specs.Refusals.{refuses, field, setup_shut, taken, full}
+use mathlib.Core.Path.{refl, sym, ◌∙◌}
+use Rattle.rules.specs.Refusals.{refuses, field, setup_shut, taken}
 use Rattle.rules.specs.Details.{refusal}
-use Rattle.rules.specs.declared.Refusal.TheVariants.{Field, SetupShut, Taken, Full}
-use Rattle.answers.proofs.Laws.{pass, refuse, none_left, told}
-use Rattle.setup.proofs.Adding.{direction_left, adds_direction_lem}
+use Rattle.rules.specs.declared.Refusal.TheVariants.{Taken}
+use Rattle.setup.proofs.Adding.{direction_left, adds_direction_lem, field_refused, shut_refused, own_refused, full_refused, added}
 use Rattle.setup.proofs.direction_verdict.Goals as goal
 
 pub returns-then-direction_field : goal.returns-then-direction_field
-unfolding refuses refusal field
-returns-then-direction_field c = refuse Field (direction_left c.args.book.now c.args.direction.out c.args.direction.into c.args.direction.model) (told c.direction_field.ensures c.if-direction_field.true) refl refl
+unfolding refuses field
+returns-then-direction_field c = field_refused (direction_left c.args.book.now c.args.direction.out c.args.direction.into c.args.direction.model) (sym c.if-direction_field.ensures)
 
 pub returns-then-setup_shut : goal.returns-then-setup_shut
-unfolding refuses refusal field setup_shut
-returns-then-setup_shut c = refuse SetupShut (pass (direction_left c.args.book.now c.args.direction.out c.args.direction.into c.args.direction.model) (told c.direction_field.ensures c.if-direction_field.false)) (told c.setup_shut.ensures c.if-setup_shut.true) refl refl
+unfolding refuses field setup_shut
+returns-then-setup_shut c = shut_refused (direction_left c.args.book.now c.args.direction.out c.args.direction.into c.args.direction.model) (sym c.if-direction_field.ensures) (sym c.if-setup_shut.ensures)
 
 pub returns-then-direction_taken : goal.returns-then-direction_taken
 unfolding refuses refusal field setup_shut taken
-returns-then-direction_taken c = refuse Taken (pass (pass (direction_left c.args.book.now c.args.direction.out c.args.direction.into c.args.direction.model) (told c.direction_field.ensures c.if-direction_field.false)) (told c.setup_shut.ensures c.if-setup_shut.false)) (told c.direction_taken.ensures c.if-direction_taken.true) refl refl
+returns-then-direction_taken c = own_refused (direction_left c.args.book.now c.args.direction.out c.args.direction.into c.args.direction.model) (sym c.if-direction_field.ensures) (sym c.if-setup_shut.ensures) Taken (sym c.if-direction_taken.ensures) refl refl
 
 pub returns-then-is_full : goal.returns-then-is_full
-unfolding refuses refusal field setup_shut taken full
-returns-then-is_full c = refuse Full (pass (pass (pass (direction_left c.args.book.now c.args.direction.out c.args.direction.into c.args.direction.model) (told c.direction_field.ensures c.if-direction_field.false)) (told c.setup_shut.ensures c.if-setup_shut.false)) (told c.direction_taken.ensures c.if-direction_taken.false)) ((adds_direction_lem c.args.book.now c.args.direction.out c.args.direction.into c.args.direction.model).full_is ∙ told c.is_full.ensures c.if-is_full.true) refl refl
+unfolding refuses field setup_shut taken
+returns-then-is_full c = full_refused (direction_left c.args.book.now c.args.direction.out c.args.direction.into c.args.direction.model) (sym c.if-direction_field.ensures) (sym c.if-setup_shut.ensures) (sym c.if-direction_taken.ensures) ((adds_direction_lem c.args.book.now c.args.direction.out c.args.direction.into c.args.direction.model).full_is ∙ sym c.if-is_full.ensures)
 
 pub returns : goal.returns
-unfolding refuses field setup_shut taken full
-returns c = none_left (pass (pass (pass (pass (direction_left c.args.book.now c.args.direction.out c.args.direction.into c.args.direction.model) (told c.direction_field.ensures c.if-direction_field.false)) (told c.setup_shut.ensures c.if-setup_shut.false)) (told c.direction_taken.ensures c.if-direction_taken.false)) ((adds_direction_lem c.args.book.now c.args.direction.out c.args.direction.into c.args.direction.model).full_is ∙ told c.is_full.ensures c.if-is_full.false))
+unfolding refuses field setup_shut taken
+returns c = added (direction_left c.args.book.now c.args.direction.out c.args.direction.into c.args.direction.model) (sym c.if-direction_field.ensures) (sym c.if-setup_shut.ensures) (sym c.if-direction_taken.ensures) ((adds_direction_lem c.args.book.now c.args.direction.out c.args.direction.into c.args.direction.model).full_is ∙ sym c.if-is_full.ensures)

@@ -6,7 +6,7 @@ use Rattle.stream.proofs.answer_next.Goals as goal
 use Rattle.stream.proofs.answer_next.Goals.{in-Ok, in-Err}
 
 pub returns : goal.returns
-returns c =
+returns g c =
     let taken : TakenFrom c.args.progress.now c.take_record.result c.match-take_record.progress c.match-take_record.answer = elim c.match-take_record.branch [
       | in-Ok w ↦ rw (w.in-Ok.is, w.progress-is, w.answer-is, w.take.ensures) (refl, refl)
       | in-Err w ↦ rw (w.in-Err.is, w.progress-is, w.answer-is) (refl, refl)

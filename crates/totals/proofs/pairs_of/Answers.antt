@@ -1,26 +1,27 @@
 -- `totals::pairs_of` meets its contract.
 -- Assumes nothing.
-use mathlib.Core.Path.{refl, sym, ◌∙◌}
-use Prim.Native.Nat.{◌<◌}
-use native.Mathlib.Omega.{arith}
-use lib.ListN.{length, length-set}
-use Rattle.totals.proofs.Gathering.{gather_start, gather_pass, gather_next, gather_done}
+use Rattle.std.proofs.Common.{◌≤◌, length, arith}
+use Rattle.rules.specs.Book.{pair_limit}
+use Rattle.cells.specs.Layout.{PAIRS}
+use Rattle.cells.proofs.Entries.{few_rows}
+use Rattle.totals.proofs.Gathering.{none_passed, none_added, pair_added, all_passed}
+use Rattle.totals.proofs.pairs_of.Goals.{then-row-right, else-row-right}
 use Rattle.totals.proofs.pairs_of.Goals as goal
 
-pub loop-i-init : goal.loop-i-init
-loop-i-init c = (((omega arith, omega (arith, c.count-entries.ensures)), (omega arith, refl)), λ k l. gather_start _ _ k _ c.count-entries.ensures)
+pub loop-row-init : goal.loop-row-init
+loop-row-init c = rw c.new-list.ensures (none_passed _ _)
 
-pub loop-i-preserved-then-book-row : goal.loop-i-preserved-then-book-row
-loop-i-preserved-then-book-row c = (((omega arith, omega arith), (omega arith, c.loop-i.invariant.0.1.1)), λ k l. gather_pass _ _ k _ _ _ c.loop-i-test.true (rw c.row.ensures.begins at c.if-book-row.true) ∙ c.loop-i.invariant.1 k l)
+pub push-requires : goal.push-requires
+push-requires c =
+    let few = c.loop-row.invariant.few in
+    let most : length c.rows-row-items.result.now ≤ pair_limit = rw c.rows-row-items.ensures (few_rows c.args.book.now PAIRS 13 pair_limit) in
+    (omega arith, omega arith)
 
-pub loop-i-preserved : goal.loop-i-preserved
-loop-i-preserved c = let u : c.loop-i.count < length c.loop-i.pairs = omega arith in (
-  ((omega arith, omega arith), (omega arith, simp length-set c.loop-i.invariant.0.1.1)),
-  λ k l. gather_next _ _ k _ _ _ _ _ l c.loop-i-test.true u c.pair_in-pair.ensures (rw c.row.ensures.begins at c.if-book-row.false) ∙ c.loop-i.invariant.1 k l,
-)
+pub loop-row-preserved : goal.loop-row-preserved
+loop-row-preserved c = elim c.if-row-right.branch [
+  | then-row-right w ↦ rw w.list-is (pair_added _ _ _ _ c.loop-row-test.true c.loop-row.invariant w.if-row-right.true _ _ w.of_row.ensures w.push.ensures.items)
+  | else-row-right w ↦ rw w.list-is (none_added _ _ _ _ c.loop-row-test.true c.loop-row.invariant w.if-row-right.false)
+]
 
 pub returns : goal.returns
-returns c = record {
-  few = omega arith;
-  sums = λ k l. sym (gather_done _ _ k _ _ _ c.loop-i-test.false) ∙ c.loop-i.invariant.1 k l;
-}
+returns c = all_passed _ _ _ _ c.rows-row-items.ensures c.loop-row-test.false c.loop-row.auto.row-index-end c.loop-row.invariant

@@ -3,7 +3,7 @@
 use Rattle.std.proofs.Common.{◌≡◌, ℕ, ◌+◌, ◌*◌, ◌≤◌, ◌<◌, refl, ◌∙◌, List, [], length, take, get_or, arith}
 use Rattle.rules.specs.Basics.{five}
 use Rattle.totals.specs.Total.{Most, sum_in, sum_of, totals}
-use Rattle.totals.proofs.Sums.{totals_next, most_next}
+use Rattle.totals.proofs.Sums.{totals_next, most_none, most_plus}
 use Rattle.totals.specs.declared.PairLower.{PairLower}
 use Rattle.totals.proofs.total_lower.Goals as goal
 
@@ -13,14 +13,14 @@ none = record { lower = [] }
 
 pub loop-pair-init : goal.loop-pair-init
 unfolding sum_of
-loop-pair-init c = (omega arith, refl, record { first = omega arith; second = omega arith; third = omega arith; fourth = omega arith; fifth = omega arith })
+loop-pair-init c = (omega arith, refl, most_none)
 
 turn : (l : List PairLower) (i : ℕ) (sums after : List ℕ) → i < length l → (i ≤ length l) × (sums ≡ totals (take i l)) × Most (i * 4294967295) sums
-    → (after ≡ five (sum_in sums (get_or l i none))) × Most 4294967295 (get_or l i none).lower
+    → (after ≡ five (sum_in sums (get_or l i none).lower)) × Most 4294967295 (get_or l i none).lower
     → (i + 1 ≤ length l) × (after ≡ totals (take (i + 1) l)) × Most ((i + 1) * 4294967295) after
 turn l i sums after h inv e =
     let next : after ≡ totals (take (i + 1) l) = e.0 ∙ rw inv.1 (totals_next l i none h) in
-    (omega arith, next, rw next (most_next l i none h (rw inv.1 at inv.2) e.1))
+    (omega arith, next, most_plus i sums (get_or l i none).lower after inv.2 e)
 
 pub loop-pair-preserved : goal.loop-pair-preserved
-loop-pair-preserved c = turn c.args.list.now c.loop-pair.pair-index c.loop-pair.sums c.with_lower-next.result (omega arith) c.loop-pair.invariant c.with_lower-next.ensures
+loop-pair-preserved c = turn c.args.list.now c.loop-pair.pair-index c.loop-pair.sums c.plus-next.result (omega arith) c.loop-pair.invariant c.plus-next.ensures

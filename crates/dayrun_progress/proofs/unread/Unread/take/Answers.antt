@@ -5,7 +5,7 @@ use Rattle.dayrun_progress.proofs.Windows.{length-window, taken}
 use Rattle.dayrun_progress.proofs.unread.Unread.take.Goals as goal
 
 pub returns : goal.returns
-returns c =
+returns g c =
     let u = c.self.inside in
     let size = length-window u.buffer u.from u.to (c.self.invariant.1) in
     let same = ap length c.self.view_is in
