@@ -34,20 +34,16 @@ module _ (b : List ℕ) (rs : List (List ℕ)) (i : ℕ) where
         let all = parties_are b in
         (is_there party_read (book_of b).parties rs (rw e all) i l, sym (ap (λ (x : Party). x.access) (entry_is party_read (book_of b).parties rs (rw e all) i (record { code = []; access = 0 }) row l q)))
 
-  five : (row : List ℕ) → part row 3 5 ≡ get_or row 3 0 ∷ get_or row 4 0 ∷ get_or row 5 0 ∷ get_or row 6 0 ∷ get_or row 7 0 ∷ []
-  unfolding part cell_from rows
-  five row = refl
-
   module _ (e : rs ≡ rows_in b RIGHTS 8 right_limit) where
     pub no_right : length rs ≤ i → FindsRight (book_of b) i None
     no_right l = past_last right_read (book_of b).rights rs (rw e (rights_are b)) i l
 
-    pub right_found : (row : List ℕ) (h d : ℕ) (s : Session) → i < length rs → row ≡ get_or rs i row → h ≡ (right_read row).holder → d ≡ (right_read row).direction → s.0 ≡ (right_read row).session
-        → FindsRight (book_of b) i (Some (record { holder = h; direction = d; session = s; mw = get_or row 3 0 ∷ get_or row 4 0 ∷ get_or row 5 0 ∷ get_or row 6 0 ∷ get_or row 7 0 ∷ [] }))
-    right_found row h d s l q eh ed es =
+    pub right_found : (row : List ℕ) (h d : ℕ) (s : Session) (mw : List ℕ) → i < length rs → row ≡ get_or rs i row → h ≡ (right_read row).holder → d ≡ (right_read row).direction → s.0 ≡ (right_read row).session → mw ≡ (right_read row).mw
+        → FindsRight (book_of b) i (Some (record { holder = h; direction = d; session = s; mw = mw }))
+    right_found row h d s mw l q eh ed es em =
         let all = rights_are b in (
           is_there right_read (book_of b).rights rs (rw e all) i l,
-          rw (eh, ed, ← five row, entry_is right_read (book_of b).rights rs (rw e all) i (record { holder = 0; direction = 0; session = 0; mw = no_mw }) row l q) (ap (λ (n : ℕ). record { holder = (right_read row).holder; direction = (right_read row).direction; session = record { 0 = n }; mw = part row 3 5 }) es),
+          rw (eh, ed, em, entry_is right_read (book_of b).rights rs (rw e all) i (record { holder = 0; direction = 0; session = 0; mw = no_mw }) row l q) (ap (λ (n : ℕ). record { holder = (right_read row).holder; direction = (right_read row).direction; session = record { 0 = n }; mw = part row 3 5 }) es),
         )
 
 -- a session, by its direction's model and the day

@@ -1,6 +1,6 @@
 -- 01, the reads: both details of a granted read are 0.
 -- Assumes nothing.
-use Rattle.std.proofs.Common.{◌≡◌, ℕ, List, Ok, refl, sym, ap}
+use Rattle.std.proofs.Common.{◌≡◌, ℕ, List, Ok, sym, ap}
 use Rattle.rules.specs.Calls.{no_details}
 use Rattle.rules.specs.Reads.{LeftReply, RightReply, ConfirmedReply, read_direction, read_profile, read_right, read_confirmed}
 use Rattle.cells.specs.View.{book_of}

@@ -1,6 +1,6 @@
 -- From the tests of a call to its verdict, and from the verdict to the promise of the call.
 -- Assumes nothing.
-use Rattle.std.specs.Prelude.{Result, Ok, Err}
+use Rattle.std.specs.Prelude.{Option, None, Result, Ok, Err, ok_or}
 use Prim.Native.Nat.{ℕ}
 use mathlib.Core.Path.{◌≡◌, refl, sym, ap, subst, ◌∙◌}
 use mathlib.Core.Bool.{Bool, true, false, true≢false}
@@ -35,6 +35,12 @@ granted b b' c n j s e =
       book = rw (eq-eqb _ _ j) e;
       kept = λ f. absurd (true≢false f);
     }
+
+-- what `ok_or` refuses, where nothing was found
+pub refused_with : {A : Type 0} (r e : Refusal) (x : Option A) → ◌≡◌ {A = Result A Refusal} (Err r) (ok_or x e) → x ≡ None → r ≡ e
+refused_with {A} r e x v n =
+    let q : ◌≡◌ {A = Result A Refusal} (Err r) (Err e) = rw n at v in
+    cc
 
 -- ---- a test whose answer a call gave
 

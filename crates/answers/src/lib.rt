@@ -4,7 +4,7 @@
 ghost use Rattle.std.specs.Prelude.{◌≡◌, nat_lt};
 ghost use Rattle.rules.specs.Said.{said, said_refusal, said_numbers, capacity_number};
 ghost use Rattle.rules.specs.Refusals.{party_unknown, direction_unknown, profile_unknown, hour_unknown};
-ghost use Rattle.cells.specs.View.{book_of};
+ghost use Rattle.cells.specs.View.{book_of, right_read};
 ghost use Rattle.answers.specs.Promises.{window_verdict};
 ghost use Rattle.answers.specs.Capacities.{capacity_unknown, Finds};
 ghost use Rattle.answers.specs.Entries.{FindsDirection, FindsSession, FindsAccess, FindsRight};
@@ -37,7 +37,7 @@ pub struct RightRead {
     pub mw: [u32; 5],
 }
 
-// ---- tests that several calls share: of a direction, a profile and a party each for itself, since the rules have a definition for each
+// ---- tests that several calls share
 
 // Earlier than the latest granted timed call.
 pub fn before_clock(book: &Book, time: u32) -> bool
@@ -46,6 +46,7 @@ pub fn before_clock(book: &Book, time: u32) -> bool
     time < cells::clock(book)
 }
 
+// Of a direction, a profile and a party each for itself: the rules have a definition for each.
 pub fn direction_unknown(book: &Book, direction: u8) -> bool
     ensures { result ≡ direction_unknown (book_of book.now) direction }
 {
@@ -102,16 +103,16 @@ pub fn direction_in(book: &Book, direction: u8) -> Option<Direction>
     ensures { FindsDirection (book_of book.now) direction result }
 {
     let row = cells::DIRECTIONS.rows(book).get(direction as usize)?;
-    Some(Direction::of_row(row))
+    Some(Direction::from(*row))
 }
 
-// A session of a direction; none where either isn't there.
+// A session of a direction; none where either isn't there. Two numbers, here and elsewhere: the calls and the definitions of the rules have them apart.
 pub fn session_in(book: &Book, direction: u8, session: Session) -> Option<DaySession>
     ensures { FindsSession (book_of book.now) direction session result }
 {
     let model = direction_in(book, direction)?.model;
     let known = cells::day(book).session(model, session);
-    if known.is_there() { Some(known) } else { None }
+    known.is_there().then_some(known)
 }
 
 // The map of a party's access; none where the party isn't there.
@@ -121,6 +122,14 @@ pub fn access_in(book: &Book, party: u8) -> Option<u32>
 {
     let row = cells::PARTIES.rows(book).get(party as usize)?;
     Some(row[16])
+}
+
+// The MW of a right, by the cells of its row.
+#[tactic(auto, unfolding(cells::specs::View::part, cells::specs::View::cell_from, cells::specs::Loops::rows))]
+fn mw_of(row: &[u32; 8]) -> [u32; 5]
+    ensures { result ≡ (right_read row.now).mw }
+{
+    std::array::from_fn(|k| row[3 + k])
 }
 
 // A right; none where it isn't there.
@@ -134,7 +143,7 @@ pub fn right_in(book: &Book, right: u16) -> Option<RightRead>
         holder: key.holder,
         direction: key.direction,
         session: key.session,
-        mw: [row[3], row[4], row[5], row[6], row[7]],
+        mw: mw_of(row),
     })
 }
 
@@ -198,7 +207,8 @@ fn refusal_numbers(refusal: Refusal) -> ReplyNumbers
     }
 }
 
-// The paper's number of an answer and both details. No `From`: two crates hand this contract on as it stands.
+// The paper's number of an answer and both details. Not `From`: its clause would be a ghost member that says the same equation, and `daybook::numbers`
+// would state it again.
 pub fn numbers(answer: Answer) -> ReplyNumbers
     ensures { said_numbers result ≡ said answer }
 {

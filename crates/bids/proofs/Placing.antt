@@ -57,18 +57,18 @@ module _ {b : List ℕ} {call : BidCall} {x : Booking} (k : Cleared b call x) (c
   rights_same : (book_of b1).rights ≡ (book_of b).rights
   rights_same = ap (λ (y : Book). y.rights) granted_book
 
-  pub entry_same : Enters b1 x.model call.party call.direction call.session.0 x.entry
+  pub entry_same : Enters b1 x.right x.entry
   entry_same = enters_still rights_same k.enters
 
   -- all stores together
-  pub placed : {n : ℕ} {b2 b3 : List ℕ} → Booked b1 x.model call.party call.direction call.session.0 call.mw n b2 → b3 ≡ clocked call.time b2 → Placed b call n b3
+  pub placed : {n : ℕ} {b2 b3 : List ℕ} → Booked b1 x.right call.mw n b2 → b3 ≡ clocked call.time b2 → Placed b call n b3
   unfolding effect is_timed clock_after directions_after profiles_after parties_after offered_after granted_after rights_after pairs_after matched_after detail
   placed r e3 =
       record {
-        number_is = r.number_is ∙ rw (rights_same, k.model_is);
+        number_is = r.number_is ∙ rw (rights_same, k.right_is);
         book_is =
             ap book_of e3
             ∙ clock_set _ call.time r.count
-            ∙ ap (λ (y : Book). with_clock y call.time) (r.book_is ∙ ap (λ (y : Book). with_rights y (with_right x.model call.party call.direction call.session.0 call.mw y.rights)) granted_book)
-            ∙ rw (k.model_is, or-true (book_of b).started);
+            ∙ ap (λ (y : Book). with_clock y call.time) (r.book_is ∙ ap (λ (y : Book). with_rights y (with_right x.right.model x.right.key.holder x.right.key.direction x.right.key.session.0 call.mw y.rights)) granted_book)
+            ∙ rw (k.right_is, or-true (book_of b).started);
       }

@@ -33,7 +33,7 @@ use Rattle.rights.specs.Work.{entry_in}
 use Rattle.rights.proofs.Rights.{full_refused, full_passed, refused_full}
 use Rattle.bids.specs.declared.BidCall.{BidCall}
 use Rattle.bids.specs.declared.Named.{Named}
-use Rattle.bids.specs.Work.{bid_of, Names, Cleared}
+use Rattle.bids.specs.Work.{bid_of, right_asked, Names, Cleared}
 
 -- the numbers that can apply to a bid
 all_left : (b : Book) (call : BidCall) → Left b (bid_of call) (3 ∷ 5 ∷ 6 ∷ 16 ∷ 8 ∷ 9 ∷ 10 ∷ 13 ∷ 15 ∷ [])
@@ -115,16 +115,16 @@ module _ {b : List ℕ} {call : BidCall} {n : Named} (w : InWindow b call n) whe
       unfolding refuses
       past_access = pass past_hours (sym access_tested ∙ a)
 
-      pub no_room : {r : Refusal} → Err r ≡ entry_in b n.direction.model call.party call.direction call.session.0 → Refused (book_of b) (bid_of call) r
+      pub no_room : {r : Refusal} → Err r ≡ entry_in b (right_asked call n.direction.model) → Refused (book_of b) (bid_of call) r
       unfolding refuses refusal full
-      no_room e = rw (refused_full b n.direction.model call.party call.direction call.session.0 e)
-          (refuse Full past_access (rw model_is at (full_refused b n.direction.model call.party call.direction call.session.0 e)) refl refl)
+      no_room e = rw (refused_full b (right_asked call n.direction.model) e)
+          (refuse Full past_access (rw model_is at (full_refused b (right_asked call n.direction.model) e)) refl refl)
 
-      module _ {entry : Option ℕ} (e : Ok entry ≡ entry_in b n.direction.model call.party call.direction call.session.0)
+      module _ {entry : Option ℕ} (e : Ok entry ≡ entry_in b (right_asked call n.direction.model))
           {r : Option (Hour × CapacityOf)} (s : r ≡ shortage_in b n.hours.direction n.hours.first.0 n.hours.count call.mw) where
         to_shortage : Left (book_of b) (bid_of call) (15 ∷ [])
         unfolding refuses full
-        to_shortage = pass past_access (rw model_is at (full_passed b n.direction.model call.party call.direction call.session.0 e))
+        to_shortage = pass past_access (rw model_is at (full_passed b (right_asked call n.direction.model) e))
 
         shortage_is : length call.mw ≡ 5 → found r ≡ shortage_of (book_of b) (bid_of call)
         unfolding shortage_of
@@ -140,12 +140,12 @@ module _ {b : List ℕ} {call : BidCall} {n : Named} (w : InWindow b call n) whe
           unfolding refuses refusal
           short {hour} {of} q = let said = short_said hour of _ (rw q at (shortage_is size)) in refuse (Short hour of) to_shortage said.0 refl said.1
 
-          pub nothing_against : r ≡ None → Cleared b call (record { hours = n.hours; model = n.direction.model; entry = entry })
+          pub nothing_against : r ≡ None → Cleared b call (record { hours = n.hours; right = right_asked call n.direction.model; entry = entry })
           unfolding refuses
           nothing_against q =
               record {
                 clear = none_left (pass to_shortage (ap is_short (sym (rw q at (shortage_is size)))));
                 hours_are = w.names.hours_are;
-                model_is = model_is;
+                right_is = ap (right_asked call) model_is;
                 enters = record { entry_is = e };
               }

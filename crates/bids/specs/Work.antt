@@ -13,6 +13,7 @@ use Rattle.tables.specs.Rows.{direction_of}
 use Rattle.answers.specs.Entries.{session_of}
 use Rattle.answers.specs.Promises.{Refused}
 use Rattle.capacity.specs.declared.SessionHours.{SessionHours}
+use Rattle.rights.specs.declared.RightOfBid.{RightOfBid}
 use Rattle.rights.specs.Work.{Enters}
 use Rattle.bids.specs.declared.BidCall.{BidCall}
 use Rattle.bids.specs.declared.Named.{Named}
@@ -21,6 +22,10 @@ use Rattle.bids.specs.declared.Booking.{Booking}
 -- 01, The list of demand 3: the call, by its numbers
 abbrev pub bid_of : BidCall → Call
 bid_of call = Bid call.time call.party call.direction call.session.0 call.mw
+
+-- 01, Offers and bids: the right that a bid asks for, in a direction of the model
+abbrev pub right_asked : BidCall → ℕ → RightOfBid
+right_asked call model = record { model = model; key = record { holder = call.party; direction = call.direction; session = call.session } }
 
 -- ---- the tests
 
@@ -49,8 +54,8 @@ FindsNamed b call (Some n) = Names b call n
 pub record Cleared (b : List ℕ) (call : BidCall) (x : Booking) : Type 0 where
   pub clear : number (book_of b) (bid_of call) ≡ 0
   pub hours_are : HoursOf (book_of b) call x.hours
-  pub model_is : x.model ≡ model_of (book_of b) call.direction
-  pub enters : Enters b x.model call.party call.direction call.session.0 x.entry
+  pub right_is : x.right ≡ right_asked call (model_of (book_of b) call.direction)
+  pub enters : Enters b x.right x.entry
 
 -- 01, What the book says no to: the tests of a bid find the number of the rules
 abbrev pub JudgedBid : List ℕ → BidCall → Result Booking Refusal → Type 0

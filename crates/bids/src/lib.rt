@@ -1,16 +1,16 @@
 // Bids. A bid is checked whole before anything is stored.
 #![tactic(auto)]
 
-ghost use Rattle.std.specs.Prelude.{◌≡◌, ◌||◌, not, nat_lt, drop};
+ghost use Rattle.std.specs.Prelude.{◌≡◌, ◌||◌, not, drop};
 ghost use Rattle.rules.specs.Basics.{bit, any_above};
-ghost use Rattle.rules.specs.Windows.{latest};
 ghost use Rattle.cells.specs.View.{book_of};
 ghost use Rattle.answers.specs.Promises.{Answers};
-ghost use Rattle.bids.specs.Work.{bid_of, FindsNamed, JudgedBid, Cleared, Placed};
+ghost use Rattle.bids.specs.Work.{bid_of, right_asked, FindsNamed, JudgedBid, Cleared, Placed};
 
 use capacity::SessionHours;
 use cells::Book;
 use day::DaySession;
+use rights::RightOfBid;
 use rules::{Answer, Refusal, Session};
 use tables::{Direction, RightKey};
 
@@ -25,15 +25,16 @@ pub struct BidCall {
 }
 
 impl BidCall {
-    // What tells the standing right that the bid adds to from others.
-    fn key(self) -> RightKey
-        ensures { result ≡ record { holder = self.party; direction = self.direction; session = self.session } }
+    // The right that the bid asks for, in a direction of the model.
+    fn right_asked(self, model: u32) -> RightOfBid
+        ensures { result ≡ right_asked self model }
     {
-        RightKey {
+        let key = RightKey {
             holder: self.party,
             direction: self.direction,
             session: self.session,
-        }
+        };
+        RightOfBid { model, key }
     }
 }
 
@@ -46,22 +47,15 @@ struct Named {
     hours: SessionHours,
 }
 
-// What a bid that nothing refuses books: its hours, the model of its session, the entry that takes its right.
+// What a bid that nothing refuses books: its hours, its right, and the entry that takes the right.
 #[derive(Clone, Copy)]
 struct Booking {
     hours: SessionHours,
-    model: u32,
+    right: RightOfBid,
     entry: Option<u32>,
 }
 
 // ---- tests
-
-// The time or a MW is out of range.
-fn bid_field(call: BidCall) -> bool
-    ensures { result ≡ (nat_lt latest call.time || any_above 9999 call.mw) }
-{
-    call.time > rules::LATEST || capacity::any_above(rules::MOST_MW, call.mw, 0)
-}
 
 // None where the party, the direction or the session isn't there.
 fn named_in(book: &Book, call: BidCall) -> Option<Named>
@@ -102,15 +96,13 @@ fn no_access(access: u32, direction: Direction) -> bool
 fn bid_verdict(book: &Book, call: BidCall) -> Result<Booking, Refusal>
     ensures { JudgedBid book.now call result }
 {
-    if bid_field(call) {
+    if capacity::out_of_range(call.time, call.mw) {
         return Err(Refusal::Field);
     }
     if answers::before_clock(book, call.time) {
         return Err(Refusal::Clock);
     }
-    let Some(named) = named_in(book, call) else {
-        return Err(Refusal::Unknown);
-    };
+    let named = named_in(book, call).ok_or(Refusal::Unknown)?;
     answers::window_verdict(windows::bid_timing(named.session, call.time))?;
     if wrong_hours(named.hours, call.mw) {
         return Err(Refusal::Hours);
@@ -118,14 +110,14 @@ fn bid_verdict(book: &Book, call: BidCall) -> Result<Booking, Refusal>
     if no_access(named.access, named.direction) {
         return Err(Refusal::Access);
     }
-    let model = named.direction.model;
-    let entry = rights::entry_of(book, model, call.key())?;
+    let right = call.right_asked(named.direction.model);
+    let entry = right.entry(book)?;
     if let Some((hour, capacity)) = capacity::shortage(book, named.hours, call.mw) {
         return Err(Refusal::Short(hour, capacity));
     }
     Ok(Booking {
         hours: named.hours,
-        model,
+        right,
         entry,
     })
 }
@@ -137,9 +129,8 @@ fn place_bid(book: &mut Book, call: BidCall, booking: Booking) -> u32
     requires { Cleared book.old call booking }
     ensures { Placed book.old call result book.new }
 {
-    cells::cells_in(book);
     capacity::grant_hours(book, booking.hours, call.mw);
-    let number = rights::book_right(book, booking.entry, booking.model, call.key(), call.mw);
+    let number = booking.right.take_mw(book, booking.entry, call.mw);
     stores::set_clock(book, call.time);
     number
 }

@@ -24,7 +24,7 @@ impl Date {
             && (1..=days_in(self.year, self.month)).contains(&self.day)
     }
 
-    // Monday 1 to Sunday 7, of a date that is there.
+    // Monday 1 to Sunday 7, of a date that is there: a number, as the cells and the rules have it.
     #[tactic(auto, using(crate::proofs::Dates::there), unfolding(rules::specs::Calendar::weekday_of, rules::specs::Calendar::days_since))]
     pub fn weekday(self) -> Option<u8>
         ensures { result ≡ (if is_date self.year self.month self.day then Some (weekday_of self.year self.month self.day) else None) }

@@ -4,9 +4,8 @@
 
 mod read_loads;
 
-use callrate_books::Tally;
+use callrate_books::{TalliedBook, Tally};
 use callrate_choices::{Bids, Rights};
-use cells::Book;
 use std::io;
 use std::rt::Env;
 
@@ -104,33 +103,36 @@ fn print_bids(rt: &impl Print, set_up: &Tally, tally: &Tally) -> io::Result<()> 
 // ---- loads
 
 // The sum of the answers. The tally is of bids only.
-fn make_calls(book: &mut Book, tally: &mut Tally, load: Load) -> u32 {
+fn make_calls(tallied: &mut TalliedBook, load: Load) -> u32 {
     match load.calls {
-        Calls::Bids(bids) => callrate_books::make_bids(book, tally, bids, load.count),
-        Calls::Nominations(rights) => callrate_books::make_nominations(book, rights, load.count),
-        Calls::Confirmed(rights) => read_loads::confirmed(book, rights, load.count),
-        Calls::Left => read_loads::left(book, load.count),
-        Calls::Right => read_loads::right(book, load.count),
+        Calls::Bids(bids) => tallied.make_bids(bids, load.count),
+        Calls::Nominations(rights) => callrate_books::make_nominations(
+            tallied.book,
+            rights,
+            load.count,
+        ),
+        Calls::Confirmed(rights) => read_loads::confirmed(tallied.book, rights, load.count),
+        Calls::Left => read_loads::left(tallied.book, load.count),
+        Calls::Right => read_loads::right(tallied.book, load.count),
     }
 }
 
 fn run(rt: &impl Print, load: Load) -> io::Result<()> {
     let rights = rights_of(load.calls);
     let mut book = [0u32; cells::CELLS];
-    let mut set_up = Tally::default();
-    let mut tally = Tally::default();
-    callrate_books::fill(&mut book, &mut set_up, rights);
-    let sum = make_calls(&mut book, &mut tally, load);
+    let set_up = callrate_books::fill(&mut book, rights);
+    let mut tallied = TalliedBook::new(&mut book);
+    let sum = make_calls(&mut tallied, load);
     if rights.is_none() {
-        print_bids(rt, &set_up, &tally)?;
+        print_bids(rt, &set_up, &tallied.tally)?;
     }
     println!(rt; "{}: {} calls, sum {sum}", load.name, load.count)
 }
 
-// The loads of that name, and all of them where there is no word.
-fn run_named(rt: &impl Print, word: &[u8]) -> io::Result<()> {
+// The load of that name, or all of them where there is no word.
+fn run_named(rt: &impl Print, word: Option<&[u8]>) -> io::Result<()> {
     for load in &LOADS {
-        if word.is_empty() || word == load.name.as_bytes() {
+        if word.is_none_or(|word| word == load.name.as_bytes()) {
             run(rt, *load)?;
         }
     }
@@ -138,8 +140,8 @@ fn run_named(rt: &impl Print, word: &[u8]) -> io::Result<()> {
 }
 
 fn main(rt: HostRuntime) -> io::Result<()> {
+    // `env::args` would allocate, and this program has no heap. An empty word or one longer than the buffer counts as none.
     let mut buffer = [0u8; 16];
-    // A word that is missing or longer than the buffer counts as none.
-    let n = rt.arg(1, &mut buffer).unwrap_or(0);
-    run_named(&rt, &buffer[..n])
+    let word = rt.arg(1, &mut buffer).ok().map(|n| &buffer[..n]);
+    run_named(&rt, word.filter(|word| !word.is_empty()))
 }

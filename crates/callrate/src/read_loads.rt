@@ -1,6 +1,6 @@
 // The loads of reads: the sum of all that they answer, modulo 2^32.
-use answers::LeftRead;
-use callrate_choices::Rights;
+use answers::{Capacity, LeftRead};
+use callrate_choices::{OFFERED_COUNT, Rights};
 use cells::Book;
 use rules::{Hour, Refusal};
 
@@ -19,25 +19,21 @@ fn confirmed_sum(book: &Book, rights: Rights, i: u32) -> u32 {
 // Reads of the confirmed MW of each of 512 pairs.
 pub fn confirmed(book: &mut Book, rights: Rights, calls: u32) -> u32 {
     callrate_books::match_pairs(book, rights);
-    let mut sum: u32 = 0;
-    for i in 0..calls {
-        sum = sum.wrapping_add(confirmed_sum(book, rights, i));
-    }
-    sum
+    (0..calls)
+        .map(|i| confirmed_sum(book, rights, i))
+        .fold(0, u32::wrapping_add)
 }
 
-// The directions and then the profiles, as `callrate_choices::offered_at` has them, but by number: a match on what that makes takes 4 % more
-// instructions of the load `left` (callgrind, docs/SPEED.md).
-fn left_of(book: &Book, row: u8, hour: Hour) -> Result<LeftRead, Refusal> {
-    if row < 24 {
-        return daybook::left_of_direction(book, row, hour);
+fn left_of(book: &Book, asked: Capacity, hour: Hour) -> Result<LeftRead, Refusal> {
+    match asked {
+        Capacity::Direction(direction) => daybook::left_of_direction(book, direction, hour),
+        Capacity::Profile(profile) => daybook::left_of_profile(book, profile, hour),
     }
-    daybook::left_of_profile(book, row - 24, hour)
 }
 
 fn left_sum(book: &Book, i: u32) -> u32 {
-    let hour = Hour((i / 32 % 26) as u8);
-    match left_of(book, (i % 32) as u8, hour) {
+    let hour = Hour((i / OFFERED_COUNT % 26) as u8);
+    match left_of(book, callrate_choices::offered_at(i), hour) {
         Ok(read) => read.left.wrapping_add(read.shortfall),
         Err(refusal) => callrate_books::sum_of(Err(refusal)),
     }
@@ -46,11 +42,9 @@ fn left_sum(book: &Book, i: u32) -> u32 {
 // Reads of what is left of a direction or a profile, of hours that are offered, cut, not offered, and not there.
 pub fn left(book: &mut Book, calls: u32) -> u32 {
     callrate_books::cut_offers(book);
-    let mut sum: u32 = 0;
-    for i in 0..calls {
-        sum = sum.wrapping_add(left_sum(book, i));
-    }
-    sum
+    (0..calls)
+        .map(|i| left_sum(book, i))
+        .fold(0, u32::wrapping_add)
 }
 
 fn right_sum(book: &Book, i: u32) -> u32 {
@@ -65,9 +59,7 @@ fn right_sum(book: &Book, i: u32) -> u32 {
 
 // Reads of rights, of which a few are not there.
 pub fn right(book: &Book, calls: u32) -> u32 {
-    let mut sum: u32 = 0;
-    for i in 0..calls {
-        sum = sum.wrapping_add(right_sum(book, i));
-    }
-    sum
+    (0..calls)
+        .map(|i| right_sum(book, i))
+        .fold(0, u32::wrapping_add)
 }

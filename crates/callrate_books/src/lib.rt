@@ -2,8 +2,11 @@
 #![tactic(auto)]
 
 use answers::Capacity;
-use callrate_choices::{Bid, Bids, OFFERED_COUNT, Rights};
+use bids::BidCall;
+use callrate_choices::{Bids, LATE, OFFERED_COUNT, Rights};
 use cells::Book;
+use nomination_tests::NominationCall;
+use offers::OfferCall;
 use rules::{Answer, Hour, ReplyNumbers, Session};
 
 // ---- answers
@@ -35,32 +38,96 @@ pub fn sum_of(answer: Answer) -> u32 {
     sum_of_numbers(daybook::numbers(answer))
 }
 
+// ---- a book and its tally
+
+// A book, and the tally of the calls that are made on it.
+#[derive(Drop)]
+pub struct TalliedBook<'a> {
+    pub book: &'a mut Book,
+    pub tally: Tally,
+}
+
+impl<'a> TalliedBook<'a> {
+    pub fn new(book: &'a mut Book) -> Self {
+        TalliedBook {
+            book,
+            tally: Tally::default(),
+        }
+    }
+
+    // Directions from each operator to each other one, until there are 24: the first twelve with the model, the others four-hour.
+    fn add_directions(&mut self, model: u8) {
+        for k in 0..35u8 {
+            let model = if k < 14 { model } else { 4 };
+            let answer = daybook::add_direction(self.book, k / 7, k % 7, model);
+            self.tally.count(answer);
+        }
+    }
+
+    // Profile p holds the directions p, p + 1, p + 12 and p + 13.
+    fn add_profiles(&mut self) {
+        for p in 0..8u32 {
+            let answer = daybook::add_profile(self.book, 0x3003 << p);
+            self.tally.count(answer);
+        }
+    }
+
+    // Parties have access to all seven operators, until there are 64.
+    fn add_parties(&mut self) {
+        for number in 0..100 {
+            let answer = daybook::add_party(self.book, cases_codes::code_of(number), 127);
+            self.tally.count(answer);
+        }
+    }
+
+    // 9,999 MW in each of some hours, from the last one down.
+    fn make_offers(&mut self, hours: u8) {
+        for k in 0..OFFERED_COUNT * hours as u32 {
+            let chosen = OfferCall {
+                time: 1000,
+                capacity: callrate_choices::offered_at(k),
+                hour: Hour((24 - k / OFFERED_COUNT % 24) as u8),
+                mw: 9999,
+            };
+            let answer = offer(self.book, chosen);
+            self.tally.count(answer);
+        }
+    }
+
+    // The sum of the answers.
+    pub fn make_bids(&mut self, bids: Bids, calls: u32) -> u32 {
+        for i in 0..calls {
+            let answer = bid(self.book, callrate_choices::bid_of(bids, i));
+            self.tally.count(answer);
+        }
+        self.tally.sum
+    }
+}
+
 // ---- set-up
 
-// Directions from each operator to each other one, until there are 24: the first twelve with the model, the others four-hour.
-fn add_directions(book: &mut Book, tally: &mut Tally, model: u8) {
-    for k in 0..35u8 {
-        let model = if k < 14 { model } else { 4 };
-        tally.count(daybook::add_direction(book, k / 7, k % 7, model));
-    }
+// A full set-up, and 9,999 MW of each direction and each profile in the last hours of the day. The tally of its calls.
+fn set_up(book: &mut Book, model: u8, hours: u8) -> Tally {
+    let mut tallied = TalliedBook::new(book);
+    let answer = daybook::open_day(tallied.book, 2015, 6, 1);
+    tallied.tally.count(answer);
+    tallied.add_directions(model);
+    tallied.add_profiles();
+    tallied.add_parties();
+    tallied.make_offers(hours);
+    tallied.tally
 }
 
-// Profile p holds the directions p, p + 1, p + 12 and p + 13.
-fn add_profiles(book: &mut Book, tally: &mut Tally) {
-    for p in 0..8u32 {
-        tally.count(daybook::add_profile(book, 0x3003 << p));
-    }
-}
+// ---- offers, bids, nominations and matching
 
-// Parties have access to all seven operators, until there are 64.
-fn add_parties(book: &mut Book, tally: &mut Tally) {
-    for number in 0..100 {
-        tally.count(daybook::add_party(book, cases_codes::code_of(number), 127));
-    }
-}
-
-fn offer(book: &mut Book, time: u32, offered: Capacity, hour: Hour, mw: u16) -> Answer {
-    match offered {
+fn offer(book: &mut Book, chosen: OfferCall) -> Answer {
+    let OfferCall {
+        time,
+        capacity,
+        hour,
+        mw,
+    } = chosen;
+    match capacity {
         Capacity::Direction(direction) => daybook::offer_direction(book, time, direction, hour, mw),
         Capacity::Profile(profile) => daybook::offer_profile(book, time, profile, hour, mw),
     }
@@ -69,47 +136,25 @@ fn offer(book: &mut Book, time: u32, offered: Capacity, hour: Hour, mw: u16) -> 
 // Each offer of the last hour is cut to 100 MW, for some rows under what is granted. The answers aren't looked at: what is left afterwards is what counts.
 pub fn cut_offers(book: &mut Book) {
     for k in 0..OFFERED_COUNT {
-        let _ = offer(book, 2300, callrate_choices::offered_at(k), Hour(24), 100);
+        let cut = OfferCall {
+            time: LATE,
+            capacity: callrate_choices::offered_at(k),
+            hour: Hour(24),
+            mw: 100,
+        };
+        let _ = offer(book, cut);
     }
 }
 
-// 9,999 MW in each of some hours, from the last one down.
-fn make_offers(book: &mut Book, tally: &mut Tally, hours: u8) {
-    for k in 0..OFFERED_COUNT * hours as u32 {
-        let hour = Hour((24 - k / OFFERED_COUNT % 24) as u8);
-        tally.count(offer(book, 1000, callrate_choices::offered_at(k), hour, 9999));
-    }
-}
-
-// A full set-up, and 9,999 MW of each direction and each profile in the last hours of the day.
-fn set_up(book: &mut Book, tally: &mut Tally, model: u8, hours: u8) {
-    tally.count(daybook::open_day(book, 2015, 6, 1));
-    add_directions(book, tally, model);
-    add_profiles(book, tally);
-    add_parties(book, tally);
-    make_offers(book, tally, hours);
-}
-
-// ---- bids, nominations and matching
-
-fn bid(book: &mut Book, chosen: Bid) -> Answer {
-    let mw = chosen.mw;
-    daybook::bid(
-        book,
-        chosen.time,
-        chosen.party,
-        chosen.direction,
-        Session(chosen.session),
+fn bid(book: &mut Book, chosen: BidCall) -> Answer {
+    let BidCall {
+        time,
+        party,
+        direction,
+        session,
         mw,
-    )
-}
-
-// The sum of the answers.
-pub fn make_bids(book: &mut Book, tally: &mut Tally, bids: Bids, calls: u32) -> u32 {
-    for i in 0..calls {
-        tally.count(bid(book, callrate_choices::bid_of(bids, i)));
-    }
-    tally.sum
+    } = chosen;
+    daybook::bid(book, time, party, direction, session, mw)
 }
 
 // For the load that follows, whose own answers are summed, so that these aren't looked at.
@@ -120,17 +165,15 @@ fn fill_rights(book: &mut Book, rights: Rights) {
 }
 
 fn nominate(book: &mut Book, rights: Rights, pair: u32, i: u32) -> Answer {
-    let chosen = callrate_choices::nomination_of(rights.pair(pair), i);
-    let mw = chosen.mw;
-    daybook::nominate(
-        book,
-        2300,
-        chosen.sender,
-        chosen.other,
-        chosen.right,
-        chosen.side,
+    let NominationCall {
+        time,
+        sender,
+        other,
+        right,
+        side,
         mw,
-    )
+    } = callrate_choices::nomination_of(rights.pair(pair), i);
+    daybook::nominate(book, time, sender, other, right, side, mw)
 }
 
 // All out sides of 512 pairs, then all in sides. The answers aren't looked at, as in `fill_rights`.
@@ -143,12 +186,9 @@ fn fill_pairs(book: &mut Book, rights: Rights) {
 // Nominations that replace a side of one of 512 pairs. The sum of the answers.
 pub fn make_nominations(book: &mut Book, rights: Rights, calls: u32) -> u32 {
     fill_pairs(book, rights);
-    let mut sum: u32 = 0;
-    for i in 0..calls {
-        let answer = nominate(book, rights, callrate_choices::shuffled(i), i);
-        sum = sum.wrapping_add(sum_of(answer));
-    }
-    sum
+    (0..calls)
+        .map(|i| sum_of(nominate(book, rights, callrate_choices::shuffled(i), i)))
+        .fold(0, u32::wrapping_add)
 }
 
 // 512 pairs that are confirmed. The answers aren't looked at: the reads that follow show what was confirmed.
@@ -159,13 +199,14 @@ pub fn match_pairs(book: &mut Book, rights: Rights) {
     }
 }
 
-// With no rights a set-up for mixed bids; else there are four-hour directions, and the rights in the last session.
-pub fn fill(book: &mut Book, tally: &mut Tally, rights: Option<Rights>) {
+// With no rights a set-up for mixed bids; else there are four-hour directions, and the rights in the last session. The tally of the set-up alone.
+pub fn fill(book: &mut Book, rights: Option<Rights>) -> Tally {
     match rights {
-        None => set_up(book, tally, 1, 24),
+        None => set_up(book, 1, 24),
         Some(rights) => {
-            set_up(book, tally, 4, 4);
+            let tally = set_up(book, 4, 4);
             fill_rights(book, rights);
+            tally
         }
     }
 }

@@ -2,16 +2,9 @@
 #![tactic(auto)]
 
 use answers::Capacity;
-
-// A row of numbers for `daybook::bid`, as the plain program of bench/ has it; `bids::BidCall` has a `Session`, and lies below the calls that are measured.
-#[derive(Clone, Copy)]
-pub struct Bid {
-    pub time: u32,
-    pub party: u8,
-    pub direction: u8,
-    pub session: u8,
-    pub mw: [u16; 5],
-}
+use bids::BidCall;
+use nomination_tests::NominationCall;
+use rules::Session;
 
 // The bids of a load.
 #[derive(Clone, Copy)]
@@ -27,27 +20,27 @@ pub enum Bids {
 const LAST_WINDOW: u32 = 84000;
 
 // A bid that adds to a right of parties 0 to 3. A window has 210 minutes and opens 240 after the one before.
-fn usual_bid(i: u32) -> Bid {
+fn usual_bid(i: u32) -> BidCall {
     let window = i / 16800 % 6;
     let small = (1 + i % 9) as u16;
-    Bid {
+    BidCall {
         time: 1080 + 240 * window + i / 80 % 210,
         party: (i / 12 % 4) as u8,
         direction: (12 + i % 12) as u8,
-        session: (1 + window) as u8,
+        session: Session((1 + window) as u8),
         mw: [small, 10 - small, small, 10 - small, 0],
     }
 }
 
 // A bid of the other parties. Half of them are for one hour: the one-hour sessions 21 to 24 take bids in all of the six windows.
-fn new_right_bid(mut bid: Bid, i: u32) -> Bid {
+fn new_right_bid(mut bid: BidCall, i: u32) -> BidCall {
     if i < LAST_WINDOW && i % 500 != 40 {
         return bid;
     }
     bid.party = (4 + i % 60) as u8;
     if i / 50 % 2 == 0 {
         bid.direction = (i / 100 % 12) as u8;
-        bid.session = (21 + i / 100 % 4) as u8;
+        bid.session = Session((21 + i / 100 % 4) as u8);
         bid.mw = [1, 0, 0, 0, 0];
     }
     bid
@@ -55,15 +48,15 @@ fn new_right_bid(mut bid: Bid, i: u32) -> Bid {
 
 // Of fifty bids 38 are usual and four are of the other parties. The others are too early for the next session or, in the last window, too
 // late for the first; or name what is not there, or have no MW, a fifth hour, or more MW than are left.
-fn mixed_bid(i: u32) -> Bid {
+fn mixed_bid(i: u32) -> BidCall {
     let mut bid = usual_bid(i);
     match i % 50 {
         0..=37 => {}
         38..=41 => return new_right_bid(bid, i),
-        42 | 43 => bid.session = 1 + bid.session % 6,
+        42 | 43 => bid.session = Session(1 + bid.session.0 % 6),
         44 => bid.party = 64,
         45 => bid.direction = 24,
-        46 => bid.session = 7,
+        46 => bid.session = Session(7),
         47 => bid.mw = [0; 5],
         48 => bid.mw = [1; 5],
         _ => bid.mw = [9999, 9999, 9999, 9999, 0],
@@ -73,12 +66,15 @@ fn mixed_bid(i: u32) -> Bid {
 
 // ---- bids in the last four-hour session
 
-fn late_bid(party: u32, direction: u32, mw: [u16; 5]) -> Bid {
-    Bid {
-        time: 2300,
+// A minute of the last four-hour session's window, at which rights are bid for and nominated and offers are cut.
+pub const LATE: u32 = 2300;
+
+fn late_bid(party: u32, direction: u32, mw: [u16; 5]) -> BidCall {
+    BidCall {
+        time: LATE,
         party: (party % 64) as u8,
         direction: (direction % 24) as u8,
-        session: 6,
+        session: Session(6),
         mw,
     }
 }
@@ -106,7 +102,7 @@ impl Rights {
     }
 
     // Of 512 rights, right r is party r / 8's on direction r % 8. Five are all party 63's, right r on direction r.
-    pub fn bid(self, r: u32) -> Bid {
+    pub fn bid(self, r: u32) -> BidCall {
         match self {
             Rights::Five => late_bid(63, r, [500, 500, 500, 500, 0]),
             Rights::Full => late_bid(r / 8, r % 8, [10, 10, 10, 10, 0]),
@@ -123,7 +119,7 @@ impl Rights {
 }
 
 // Standing bids are for the last 64 of 512 rights. Bids at a full table would need one more.
-pub fn bid_of(bids: Bids, i: u32) -> Bid {
+pub fn bid_of(bids: Bids, i: u32) -> BidCall {
     match bids {
         Bids::Mixed => mixed_bid(i),
         Bids::Standing => late_bid(56 + i / 8 % 8, i % 8, one_mw(i / 64)),
@@ -133,22 +129,12 @@ pub fn bid_of(bids: Bids, i: u32) -> Bid {
 
 // ---- pairs and nominations
 
-// In the numbers that the calls of `daybook` take; in `pairs::PairKey` they are cells.
+// In the numbers that the calls of `daybook` take. In `pairs::PairKey` they are cells, and each call would cast them back.
 #[derive(Clone, Copy)]
 pub struct Pair {
     pub right: u16,
     pub out: u8,
     pub into: u8,
-}
-
-// All that `daybook::nominate` takes but the time, which is that of the whole load; `nomination_tests::NominationCall` has that too.
-#[derive(Clone, Copy)]
-pub struct Nomination {
-    pub sender: u8,
-    pub other: u8,
-    pub right: u16,
-    pub side: u8,
-    pub mw: [u16; 5],
 }
 
 // 127 pairs are the most that a right can have, since one of the two is its holder.
@@ -189,23 +175,19 @@ fn mw_of(i: u32) -> [u16; 5] {
 }
 
 // All out sides, then all in sides, and so on.
-pub fn nomination_of(pair: Pair, i: u32) -> Nomination {
-    let mw = mw_of(i);
-    if i / 512 % 2 == 0 {
-        return Nomination {
-            sender: pair.out,
-            other: pair.into,
-            right: pair.right,
-            side: 0,
-            mw,
-        };
-    }
-    Nomination {
-        sender: pair.into,
-        other: pair.out,
+pub fn nomination_of(pair: Pair, i: u32) -> NominationCall {
+    let (sender, other, side) = if i / 512 % 2 == 0 {
+        (pair.out, pair.into, 0)
+    } else {
+        (pair.into, pair.out, 1)
+    };
+    NominationCall {
+        time: LATE,
+        sender,
+        other,
         right: pair.right,
-        side: 1,
-        mw,
+        side,
+        mw: mw_of(i),
     }
 }
 

@@ -1,13 +1,14 @@
-// The search for a shortage, and the granting of a bid's hours, in place.
+// The MW of a bid and of a nomination in range, the search for a shortage, and the granting of a bid's hours, in place.
 #![tactic(auto)]
 
-ghost use Rattle.std.specs.Prelude.{◌≡◌, ◌+◌, ◌<◌, ◌≤◌, drop, nat_lt};
+ghost use Rattle.std.specs.Prelude.{◌≡◌, ◌+◌, ◌<◌, ◌≤◌, ◌||◌, drop, nat_lt};
 ghost use Rattle.rules.specs.Basics.{any_above};
 ghost use Rattle.rules.specs.Book.{left_at, profile_limit};
+ghost use Rattle.rules.specs.Windows.{latest};
 ghost use Rattle.cells.specs.Layout.{CELLS, PROFILES};
 ghost use Rattle.cells.specs.View.{book_of, counted};
 ghost use Rattle.stores.specs.Bids.{added_cell, granted_profile, granted_hour, granted_hours, added_five};
-ghost use Rattle.capacity.specs.Search.{Hours, InDirection, profile_short_in, shortage_in};
+ghost use Rattle.capacity.specs.Search.{Hours, InDirection, InProfile, profile_short_in, shortage_in};
 
 use cells::{Book, Place};
 use rules::{CapacityOf, Hour};
@@ -57,40 +58,51 @@ impl DirectionHour {
         is_short(book, at, asked)
     }
 
-    // A profile holds the direction and has less left. By its number, as `grant_profile`.
+    // Its place in a profile that holds the direction. By the profile's number: granting stores in the book that a slice of rows would borrow.
+    fn in_profile(self, book: &Book, profile: u8) -> Option<Place>
+        requires { profile < profile_limit }
+        ensures { InProfile book.now self.direction self.hour profile result }
+    {
+        let map = book[cells::PROFILES.row(profile as u32)];
+        if !rules::has_bit(map, self.direction as u32) {
+            return None;
+        }
+        Some(Place {
+            row: cells::PROFILE_ROW + profile,
+            hour: self.hour,
+        })
+    }
+
+    // A profile holds the direction and has less left.
+    #[tactic(auto, unfolding(crate::specs::Search::profile_short_in))]
     fn profile_short(self, book: &Book, profile: u8, asked: u16) -> bool
         requires { profile < profile_limit }
         ensures { result ≡ profile_short_in book.now self.direction self.hour.0 asked profile }
     {
-        let map = book[cells::PROFILES.row(profile as u32)];
-        let at = Place {
-            row: cells::PROFILE_ROW + profile,
-            hour: self.hour,
-        };
-        rules::has_bit(map, self.direction as u32) && is_short(book, at, asked)
+        let place = self.in_profile(book, profile);
+        place.is_some_and(|at| is_short(book, at, asked))
     }
 }
 
 // The first hour that is short, and in it the direction before the profiles, the lowest profile first.
-// The loops stay: document 01 names labelled loops for this search.
+// Labelled loops: document 01 names them for this search.
 pub fn shortage(book: &Book, hours: SessionHours, mw: [u16; 5]) -> Option<(Hour, CapacityOf)>
     ensures { result ≡ shortage_in book.now hours.direction hours.first.0 hours.count mw }
 {
     let profiles = profile_count(book);
     let mut found = None;
-    'hours: for k in 0..hours.count {
-        let hour = Hour(hours.first.0 + k);
+    'hours: for (k, asked) in mw[..hours.count as usize].iter().enumerate() {
+        let hour = Hour(hours.first.0 + k as u8);
         let at = DirectionHour {
             direction: hours.direction,
             hour,
         };
-        let asked = mw[k as usize];
-        if at.is_short(book, asked) {
+        if at.is_short(book, *asked) {
             found = Some((hour, CapacityOf::Direction));
             break 'hours;
         }
         for profile in 0..profiles {
-            if at.profile_short(book, profile, asked) {
+            if at.profile_short(book, profile, *asked) {
                 found = Some((hour, CapacityOf::Profile(profile)));
                 break 'hours;
             }
@@ -106,6 +118,13 @@ pub fn any_above(most: u16, mw: [u16; 5], from: u8) -> bool
     mw.iter().skip(from as usize).any(|asked| *asked > most)
 }
 
+// The time or a MW of a bid or a nomination is out of range.
+pub fn out_of_range(time: u32, mw: [u16; 5]) -> bool
+    ensures { result ≡ (nat_lt latest time || any_above 9999 mw) }
+{
+    time > rules::LATEST || any_above(rules::MOST_MW, mw, 0)
+}
+
 // ---- granting
 
 // MW more in one cell.
@@ -117,22 +136,18 @@ fn add(book: &mut Book, at: usize, mw: u16)
 }
 
 impl DirectionHour {
-    // MW of a profile, where it holds the direction. By its number: it stores in the book that a slice of rows would borrow.
+    // MW of a profile, where it holds the direction.
+    #[tactic(auto, unfolding(stores::specs::Bids::granted_profile))]
     fn grant_profile(self, book: &mut Book, profile: u8, mw: u16)
         requires { profile < profile_limit }
         ensures { book.new ≡ granted_profile self.direction self.hour.0 mw profile book.old }
     {
-        let map = book[cells::PROFILES.row(profile as u32)];
-        if rules::has_bit(map, self.direction as u32) {
-            let at = Place {
-                row: cells::PROFILE_ROW + profile,
-                hour: self.hour,
-            };
+        if let Some(at) = self.in_profile(book, profile) {
             add(book, cells::GRANTED_MW + at.position(), mw);
         }
     }
 
-    // MW of the direction, and of each of the first profiles that holds it.
+    // MW of the direction, and of each of the first profiles that holds it, by its number as in `in_profile`.
     fn grant(self, book: &mut Book, profiles: u8, mw: u16)
         requires { profiles ≤ profile_limit }
         ensures { book.new ≡ granted_hour profiles self.direction self.hour.0 mw book.old }

@@ -1,5 +1,5 @@
 // Codes of the published lists: those of parties are accepted, those of areas and misprints are refused.
-use cases_printing::Tally;
+use cases_printing::Report;
 use std::io;
 
 const PARTIES: [[u8; 16]; 25] = [
@@ -89,19 +89,19 @@ fn verdict(accepted: bool) -> &'static str {
     if accepted { "accepted" } else { "refused" }
 }
 
-fn code_case(rt: &impl Print, tally: &mut Tally, code: [u8; 16], accepted: bool) -> io::Result<()> {
-    print!(rt; "party code ")?;
-    rt.write_all(&code)?;
-    print!(rt; ": ")?;
-    tally.compare(rt, &verdict(eic::is_party_code(code)), &verdict(accepted))
+fn code_case(report: &mut Report<impl Print>, code: [u8; 16], accepted: bool) -> io::Result<()> {
+    print!(report.rt; "party code ")?;
+    report.rt.write_all(&code)?;
+    print!(report.rt; ": ")?;
+    report.compare(&verdict(eic::is_party_code(code)), &verdict(accepted))
 }
 
-pub fn run(rt: &impl Print, tally: &mut Tally) -> io::Result<()> {
+pub fn run(report: &mut Report<impl Print>) -> io::Result<()> {
     for code in PARTIES {
-        code_case(rt, tally, code, true)?;
+        code_case(report, code, true)?;
     }
     for code in OTHERS {
-        code_case(rt, tally, code, false)?;
+        code_case(report, code, false)?;
     }
     Ok(())
 }

@@ -3,15 +3,15 @@
 
 mod codes;
 
-use cases_printing::Tally;
+use cases_printing::Report;
 use std::io;
 
 fn main(rt: HostRuntime) -> io::Result<()> {
-    let mut tally = Tally::default();
-    codes::run(&rt, &mut tally)?;
-    cases_dates::run(&rt, &mut tally)?;
-    cases_windows::run(&rt, &mut tally)?;
-    cases_records::run(&rt, &mut tally)?;
-    cases_full::run(&rt, &mut tally)?;
-    println!(rt; "{tally}")
+    let mut report = Report::new(&rt);
+    codes::run(&mut report)?;
+    cases_dates::run(&mut report)?;
+    cases_windows::run(&mut report)?;
+    cases_records::run(&mut report)?;
+    cases_full::run(&mut report)?;
+    report.finish()
 }

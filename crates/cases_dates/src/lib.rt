@@ -2,7 +2,7 @@
 // changes of the clock are those of the published lists.
 #![tactic(auto)]
 
-use cases_printing::Tally;
+use cases_printing::{NoWeekday, Report, Weekday};
 use std::{fmt, io};
 
 // There need be no such date.
@@ -22,72 +22,62 @@ impl fmt::Display for Date {
     }
 }
 
-// A date's weekday, from Monday 1 to Sunday 7 as the calendar numbers them and as days are counted on, and its hours.
-#[derive(Clone, Copy, PartialEq)]
+// What the calendar says of a date: whether it is there, its weekday and its hours.
+// A flag and two Options, and no Option of a struct: the calendar answers the three apart, and a contradiction has to show.
+#[derive(Clone, Copy, PartialEq, Debug)]
 struct Day {
-    weekday: u8,
-    hours: u8,
+    is_there: bool,
+    weekday: Option<Result<Weekday, NoWeekday>>,
+    hours: Option<u8>,
 }
 
-// Of the number 0, which `day_of` has for a weekday that the calendar lacks. It is no expected one, so the case shows and counts as not as expected.
-const NO_WEEKDAY: &str = "no weekday";
+const NO_SUCH_DATE: Day = Day {
+    is_there: false,
+    weekday: None,
+    hours: None,
+};
 
-const WEEKDAYS: [&str; 8] = [
-    NO_WEEKDAY,
-    "Monday",
-    "Tuesday",
-    "Wednesday",
-    "Thursday",
-    "Friday",
-    "Saturday",
-    "Sunday",
-];
+impl Day {
+    fn new(weekday: Weekday, hours: u8) -> Self {
+        Day {
+            is_there: true,
+            weekday: Some(Ok(weekday)),
+            hours: Some(hours),
+        }
+    }
+}
 
 impl fmt::Display for Day {
     fn fmt<W: fmt::Write>(&self, f: &mut fmt::Formatter<W>) -> fmt::Result {
-        let weekday = WEEKDAYS.get(self.weekday as usize).unwrap_or(&NO_WEEKDAY);
-        write!(f, "{weekday}, {} hours", self.hours)
+        match *self {
+            NO_SUCH_DATE => f.write_str("no such date"),
+            Day {
+                is_there: true,
+                weekday: Some(Ok(weekday)),
+                hours: Some(hours),
+            } => write!(f, "{weekday:?}, {hours} hours"),
+            // Parts that contradict one another are never expected.
+            day => write!(f, "{day:?}"),
+        }
     }
 }
 
 // ---- what the calendar says
 
-// None where there is no such date, and the calendar has neither a weekday nor hours for it. If it has only one of them, the other is 0, which is never
-// expected.
-fn day_of(date: Date) -> Option<Day> {
-    let weekday = date.0.weekday();
-    let hours = date.0.hours();
-    if !date.0.is_there() && weekday.is_none() && hours.is_none() {
-        return None;
+// The calendar gives a weekday by its number.
+fn day_of(date: Date) -> Day {
+    Day {
+        is_there: date.0.is_there(),
+        weekday: date.0.weekday().map(Weekday::try_from),
+        hours: date.0.hours(),
     }
-    Some(Day {
-        weekday: weekday.unwrap_or(0),
-        hours: hours.unwrap_or(0),
-    })
 }
 
 // ---- cases
 
-fn print_day(rt: &impl Print, day: Option<Day>) -> io::Result<()> {
-    match day {
-        Some(day) => rt.print(day),
-        None => rt.print("no such date"),
-    }
-}
-
-// Where None is expected, there should be no such date.
-fn date_case(
-    rt: &impl Print,
-    tally: &mut Tally,
-    date: Date,
-    expected: Option<Day>,
-) -> io::Result<()> {
-    let found = day_of(date);
-    print!(rt; "{date}: ")?;
-    print_day(rt, found)?;
-    print!(rt; ", expected ")?;
-    print_day(rt, expected)?;
-    tally.count(rt, found == expected)
+fn date_case(report: &mut Report<impl Print>, date: Date, expected: Day) -> io::Result<()> {
+    print!(report.rt; "{date}: ")?;
+    report.compare(&day_of(date), &expected)
 }
 
 // ---- the months of a year
@@ -96,7 +86,7 @@ fn date_case(
 #[derive(Clone, Copy)]
 struct Year {
     number: u16,
-    first_weekday: u8,
+    first_weekday: Weekday,
     february: u8,
 }
 
@@ -104,17 +94,17 @@ struct Year {
 const YEARS: [Year; 3] = [
     Year {
         number: 2015,
-        first_weekday: 4,
+        first_weekday: Weekday::Thursday,
         february: 28,
     },
     Year {
         number: 2016,
-        first_weekday: 5,
+        first_weekday: Weekday::Friday,
         february: 29,
     },
     Year {
         number: 2100,
-        first_weekday: 5,
+        first_weekday: Weekday::Friday,
         february: 28,
     },
 ];
@@ -143,15 +133,16 @@ fn last_day(year: Year, month: Month) -> u8 {
 }
 
 // Counted on from the weekday of the year's first day.
-fn weekday_on(year: Year, month: Month, day: u8) -> u8 {
+fn weekday_on(year: Year, month: Month, day: u8) -> Result<Weekday, NoWeekday> {
     let leap_day = year.february == 29 && 2 < month.0;
     let days = month.2 as u32 + leap_day as u32 + day as u32;
-    ((year.first_weekday as u32 + days + 5) % 7 + 1) as u8
+    let number = (year.first_weekday as u32 + days + 5) % 7 + 1;
+    Weekday::try_from(number as u8)
 }
 
 // The last Sunday of March and of October, which have 31 days, is the one after the 24th.
-fn hours_on(month: Month, day: u8, weekday: u8) -> u8 {
-    if weekday != 7 || day < 25 {
+fn hours_on(month: Month, day: u8, weekday: Result<Weekday, NoWeekday>) -> u8 {
+    if weekday != Ok(Weekday::Sunday) || day < 25 {
         return 24;
     }
     match month.0 {
@@ -161,38 +152,35 @@ fn hours_on(month: Month, day: u8, weekday: u8) -> u8 {
     }
 }
 
-fn day_case(
-    rt: &impl Print,
-    tally: &mut Tally,
-    year: Year,
-    month: Month,
-    day: u8,
-) -> io::Result<()> {
+fn day_case(report: &mut Report<impl Print>, year: Year, month: Month, day: u8) -> io::Result<()> {
     let weekday = weekday_on(year, month, day);
-    let hours = hours_on(month, day, weekday);
-    let date = Date::new(year.number, month.0, day);
-    date_case(rt, tally, date, Some(Day { weekday, hours }))
+    let expected = Day {
+        is_there: true,
+        weekday: Some(weekday),
+        hours: Some(hours_on(month, day, weekday)),
+    };
+    date_case(report, Date::new(year.number, month.0, day), expected)
 }
 
 // The first day, the last, and the one after it, which is not there.
-fn month_cases(rt: &impl Print, tally: &mut Tally, year: Year, month: Month) -> io::Result<()> {
+fn month_cases(report: &mut Report<impl Print>, year: Year, month: Month) -> io::Result<()> {
     let last = last_day(year, month);
-    day_case(rt, tally, year, month, 1)?;
-    day_case(rt, tally, year, month, last)?;
+    day_case(report, year, month, 1)?;
+    day_case(report, year, month, last)?;
     let after = Date::new(year.number, month.0, last.wrapping_add(1));
-    date_case(rt, tally, after, None)
+    date_case(report, after, NO_SUCH_DATE)
 }
 
-fn year_cases(rt: &impl Print, tally: &mut Tally, year: Year) -> io::Result<()> {
+fn year_cases(report: &mut Report<impl Print>, year: Year) -> io::Result<()> {
     for month in MONTHS {
-        month_cases(rt, tally, year, month)?;
+        month_cases(report, year, month)?;
     }
     Ok(())
 }
 
-fn years_cases(rt: &impl Print, tally: &mut Tally) -> io::Result<()> {
+fn years_cases(report: &mut Report<impl Print>) -> io::Result<()> {
     for year in YEARS {
-        year_cases(rt, tally, year)?;
+        year_cases(report, year)?;
     }
     Ok(())
 }
@@ -232,20 +220,19 @@ fn day_after(date: Date) -> Date {
 }
 
 // The Saturday before, the Sunday and the Monday after.
-fn change_cases(rt: &impl Print, tally: &mut Tally, sunday: Date, hours: u8) -> io::Result<()> {
+fn change_cases(report: &mut Report<impl Print>, sunday: Date, hours: u8) -> io::Result<()> {
     let calendar::Date { year, month, day } = sunday.0;
     let saturday = Date::new(year, month, day.wrapping_sub(1));
     let monday = day_after(sunday);
-    let weekday_of_24 = |weekday| Some(Day { weekday, hours: 24 });
-    date_case(rt, tally, saturday, weekday_of_24(6))?;
-    date_case(rt, tally, sunday, Some(Day { weekday: 7, hours }))?;
-    date_case(rt, tally, monday, weekday_of_24(1))
+    date_case(report, saturday, Day::new(Weekday::Saturday, 24))?;
+    date_case(report, sunday, Day::new(Weekday::Sunday, hours))?;
+    date_case(report, monday, Day::new(Weekday::Monday, 24))
 }
 
-fn clock_cases(rt: &impl Print, tally: &mut Tally) -> io::Result<()> {
+fn clock_cases(report: &mut Report<impl Print>) -> io::Result<()> {
     for Changes(year, march, october) in CHANGES {
-        change_cases(rt, tally, Date::new(year, 3, march), 23)?;
-        change_cases(rt, tally, Date::new(year, 10, october), 25)?;
+        change_cases(report, Date::new(year, 3, march), 23)?;
+        change_cases(report, Date::new(year, 10, october), 25)?;
     }
     Ok(())
 }
@@ -275,9 +262,9 @@ const ABSENT: [(u16, u8, u8); 19] = [
     (0, 0, 0),
 ];
 
-fn absent_cases(rt: &impl Print, tally: &mut Tally) -> io::Result<()> {
+fn absent_cases(report: &mut Report<impl Print>) -> io::Result<()> {
     for (year, month, day) in ABSENT {
-        date_case(rt, tally, Date::new(year, month, day), None)?;
+        date_case(report, Date::new(year, month, day), NO_SUCH_DATE)?;
     }
     Ok(())
 }
@@ -286,50 +273,50 @@ fn absent_cases(rt: &impl Print, tally: &mut Tally) -> io::Result<()> {
 
 // A year, a month and a day, with the date's weekday and its hours.
 #[derive(Clone, Copy)]
-struct Known((u16, u8, u8), u8, u8);
+struct Known((u16, u8, u8), Weekday, u8);
 
 // The ends of the cycle, leap days and hundreds of years, the days after the years above, Sundays a week before or after a change, and
 // the dates that document 02 names.
 const KNOWN: [Known; 26] = [
-    Known((2000, 1, 1), 6, 24),
-    Known((2000, 2, 28), 1, 24),
-    Known((2000, 2, 29), 2, 24),
-    Known((2000, 3, 1), 3, 24),
-    Known((2000, 3, 26), 7, 23),
-    Known((2000, 10, 29), 7, 25),
-    Known((2000, 12, 31), 7, 24),
-    Known((2004, 2, 29), 7, 24),
-    Known((2004, 5, 1), 6, 24),
-    Known((2013, 3, 24), 7, 24),
-    Known((2015, 3, 29), 7, 23),
-    Known((2015, 4, 5), 7, 24),
-    Known((2015, 6, 1), 1, 24),
-    Known((2015, 6, 4), 4, 24),
-    Known((2015, 11, 1), 7, 24),
-    Known((2017, 1, 1), 7, 24),
-    Known((2021, 10, 24), 7, 24),
-    Known((2038, 1, 19), 2, 24),
-    Known((2101, 1, 1), 6, 24),
-    Known((2200, 3, 1), 6, 24),
-    Known((2300, 3, 1), 4, 24),
-    Known((2399, 1, 1), 5, 24),
-    Known((2399, 2, 28), 7, 24),
-    Known((2399, 3, 28), 7, 23),
-    Known((2399, 10, 31), 7, 25),
-    Known((2399, 12, 31), 5, 24),
+    Known((2000, 1, 1), Weekday::Saturday, 24),
+    Known((2000, 2, 28), Weekday::Monday, 24),
+    Known((2000, 2, 29), Weekday::Tuesday, 24),
+    Known((2000, 3, 1), Weekday::Wednesday, 24),
+    Known((2000, 3, 26), Weekday::Sunday, 23),
+    Known((2000, 10, 29), Weekday::Sunday, 25),
+    Known((2000, 12, 31), Weekday::Sunday, 24),
+    Known((2004, 2, 29), Weekday::Sunday, 24),
+    Known((2004, 5, 1), Weekday::Saturday, 24),
+    Known((2013, 3, 24), Weekday::Sunday, 24),
+    Known((2015, 3, 29), Weekday::Sunday, 23),
+    Known((2015, 4, 5), Weekday::Sunday, 24),
+    Known((2015, 6, 1), Weekday::Monday, 24),
+    Known((2015, 6, 4), Weekday::Thursday, 24),
+    Known((2015, 11, 1), Weekday::Sunday, 24),
+    Known((2017, 1, 1), Weekday::Sunday, 24),
+    Known((2021, 10, 24), Weekday::Sunday, 24),
+    Known((2038, 1, 19), Weekday::Tuesday, 24),
+    Known((2101, 1, 1), Weekday::Saturday, 24),
+    Known((2200, 3, 1), Weekday::Saturday, 24),
+    Known((2300, 3, 1), Weekday::Thursday, 24),
+    Known((2399, 1, 1), Weekday::Friday, 24),
+    Known((2399, 2, 28), Weekday::Sunday, 24),
+    Known((2399, 3, 28), Weekday::Sunday, 23),
+    Known((2399, 10, 31), Weekday::Sunday, 25),
+    Known((2399, 12, 31), Weekday::Friday, 24),
 ];
 
-fn known_cases(rt: &impl Print, tally: &mut Tally) -> io::Result<()> {
+fn known_cases(report: &mut Report<impl Print>) -> io::Result<()> {
     for Known((year, month, day), weekday, hours) in KNOWN {
         let date = Date::new(year, month, day);
-        date_case(rt, tally, date, Some(Day { weekday, hours }))?;
+        date_case(report, date, Day::new(weekday, hours))?;
     }
     Ok(())
 }
 
-pub fn run(rt: &impl Print, tally: &mut Tally) -> io::Result<()> {
-    years_cases(rt, tally)?;
-    clock_cases(rt, tally)?;
-    absent_cases(rt, tally)?;
-    known_cases(rt, tally)
+pub fn run(report: &mut Report<impl Print>) -> io::Result<()> {
+    years_cases(report)?;
+    clock_cases(report)?;
+    absent_cases(report)?;
+    known_cases(report)
 }

@@ -2,7 +2,7 @@
 #![tactic(auto)]
 
 use answers::RightRead;
-use cases_printing::{Reply, Tally};
+use cases_printing::{Reply, Report};
 use cells::Book;
 use rules::{Answer, Hour, ReplyNumbers, Session};
 use std::{fmt, io};
@@ -75,10 +75,6 @@ fn answer_to(book: &mut Book, call: Call) -> Answer {
     }
 }
 
-fn reply_to(book: &mut Book, call: Call) -> Reply {
-    Reply(daybook::numbers(answer_to(book, call)))
-}
-
 // Calls that each need a new entry.
 #[derive(Clone, Copy)]
 enum Series {
@@ -115,14 +111,11 @@ fn call_at(series: Series, place: u16) -> Call {
     }
 }
 
-fn count_granted(book: &mut Book, series: Series, times: u16) -> u32 {
-    let mut count: u32 = 0;
-    for place in 0..times {
-        if reply_to(book, call_at(series, place)).0.number == 0 {
-            count = count.saturating_add(1);
-        }
-    }
-    count
+fn count_granted(book: &mut Book, series: Series, times: u16) -> usize {
+    (0..times)
+        .map(|place| answer_to(book, call_at(series, place)))
+        .filter(|answer| answer.is_ok())
+        .count()
 }
 
 // ---- rights
@@ -146,13 +139,24 @@ impl fmt::Display for Right {
     }
 }
 
+// A right, or the reply where the read is refused.
+#[derive(Clone, Copy, PartialEq)]
+struct Reading(Result<Right, Reply>);
+
+impl fmt::Display for Reading {
+    fn fmt<W: fmt::Write>(&self, f: &mut fmt::Formatter<W>) -> fmt::Result {
+        match self.0 {
+            Ok(right) => write!(f, "{GRANTED} {right}"),
+            Err(reply) => write!(f, "{reply}"),
+        }
+    }
+}
+
 const LAST_RIGHT: u16 = 511;
 
-fn last_right(book: &Book) -> Result<Right, Reply> {
-    match daybook::right_at(book, LAST_RIGHT) {
-        Ok(read) => Ok(Right(read)),
-        Err(refusal) => Err(Reply(daybook::numbers(Err(refusal)))),
-    }
+fn last_right(book: &Book) -> Reading {
+    let read = daybook::right_at(book, LAST_RIGHT);
+    Reading(read.map(Right).map_err(Reply::from))
 }
 
 // ---- cases
@@ -164,7 +168,7 @@ enum Case {
         tried: &'static str,
         series: Series,
         times: u16,
-        granted: u32,
+        granted: usize,
     },
     LastRight(Right),
 }
@@ -333,22 +337,11 @@ static CASES: [Case; 24] = [
     ),
 ];
 
-fn right_case(rt: &impl Print, tally: &mut Tally, book: &Book, expected: Right) -> io::Result<()> {
-    let found = last_right(book);
-    print!(rt; "right {LAST_RIGHT} = ")?;
-    match found {
-        Ok(right) => print!(rt; "{GRANTED} {right}")?,
-        Err(reply) => print!(rt; "{reply}")?,
-    }
-    print!(rt; ", expected {GRANTED} {expected}")?;
-    tally.count(rt, found == Ok(expected))
-}
-
-fn run_case(rt: &impl Print, tally: &mut Tally, book: &mut Book, case: Case) -> io::Result<()> {
+fn run_case(report: &mut Report<impl Print>, book: &mut Book, case: Case) -> io::Result<()> {
     match case {
         Case::Once(call, expected) => {
-            print!(rt; "{call} = ")?;
-            tally.compare(rt, &reply_to(book, call), &expected)
+            print!(report.rt; "{call} = ")?;
+            report.compare(&Reply::from(answer_to(book, call)), &expected)
         }
         Case::Many {
             tried,
@@ -357,17 +350,20 @@ fn run_case(rt: &impl Print, tally: &mut Tally, book: &mut Book, case: Case) -> 
             granted,
         } => {
             let found = count_granted(book, series, times);
-            print!(rt; "{tried}: {found} granted, expected {granted}")?;
-            tally.count(rt, found == granted)
+            print!(report.rt; "{tried}: {found} granted, expected {granted}")?;
+            report.end(found == granted)
         }
-        Case::LastRight(expected) => right_case(rt, tally, book, expected),
+        Case::LastRight(expected) => {
+            print!(report.rt; "right {LAST_RIGHT} = ")?;
+            report.compare(&last_right(book), &Reading(Ok(expected)))
+        }
     }
 }
 
-pub fn run(rt: &impl Print, tally: &mut Tally) -> io::Result<()> {
+pub fn run(report: &mut Report<impl Print>) -> io::Result<()> {
     let mut book = [0u32; cells::CELLS];
     for case in &CASES {
-        run_case(rt, tally, &mut book, *case)?;
+        run_case(report, &mut book, *case)?;
     }
     Ok(())
 }

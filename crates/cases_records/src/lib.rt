@@ -5,7 +5,7 @@
 mod damaged;
 mod records;
 
-use cases_printing::{Hexadecimal, Reply, Tally};
+use cases_printing::{Hexadecimal, Reply, Report};
 use damaged::{BITS, Damaged, FOREIGN, KINDS, LACKING, ZEROS};
 use record::RecordRead;
 use records::{NO_CALL, RECORDS, Record};
@@ -49,44 +49,39 @@ const REFUSED: Reply = Reply(ReplyNumbers {
     second: 0,
 });
 
-fn read_bytes(bytes: &[u8]) -> Result<RecordRead, Reply> {
-    record::read(bytes).map_err(|refusal| Reply(answers::numbers(Err(refusal))))
-}
+// What was read, or the reply where the record is refused.
+#[derive(Clone, Copy, PartialEq)]
+struct Reading(Result<RecordRead, Reply>);
 
-fn print_reading(rt: &impl Print, reading: Result<RecordRead, Reply>) -> io::Result<()> {
-    match reading {
-        Ok(read) => print!(rt;
-            "answer 0 0 0, length {}, {}",
-            read.length,
-            Fields(read.call)
-        ),
-        Err(REFUSED) => print!(rt; "answer 1 and zeros"),
-        Err(reply) => print!(rt; "answer {reply}"),
+impl fmt::Display for Reading {
+    fn fmt<W: fmt::Write>(&self, f: &mut fmt::Formatter<W>) -> fmt::Result {
+        match self.0 {
+            Ok(read) => write!(
+                f,
+                "answer 0 0 0, length {}, {}",
+                read.length,
+                Fields(read.call)
+            ),
+            Err(REFUSED) => f.write_str("answer 1 and zeros"),
+            Err(reply) => write!(f, "answer {reply}"),
+        }
     }
 }
 
-fn read_case(
-    rt: &impl Print,
-    tally: &mut Tally,
-    bytes: &[u8],
-    expected: Result<RecordRead, Reply>,
-) -> io::Result<()> {
-    let found = read_bytes(bytes);
-    print!(rt; "read{}: ", Hexadecimal(bytes))?;
-    print_reading(rt, found)?;
-    print!(rt; "; expected ")?;
-    print_reading(rt, expected)?;
-    tally.count(rt, found == expected)
+fn read_case(report: &mut Report<impl Print>, bytes: &[u8], expected: Reading) -> io::Result<()> {
+    let found = Reading(record::read(bytes).map_err(Reply::from));
+    print!(report.rt; "read{}: {found}; expected {expected}", Hexadecimal(bytes))?;
+    report.end(found == expected)
 }
 
-fn refused_case(rt: &impl Print, tally: &mut Tally, bytes: &[u8]) -> io::Result<()> {
-    read_case(rt, tally, bytes, Err(REFUSED))
+fn refused_case(report: &mut Report<impl Print>, bytes: &[u8]) -> io::Result<()> {
+    read_case(report, bytes, Reading(Err(REFUSED)))
 }
 
 // The record cut short at each length.
-fn cut_cases(rt: &impl Print, tally: &mut Tally, bytes: &[u8]) -> io::Result<()> {
+fn cut_cases(report: &mut Report<impl Print>, bytes: &[u8]) -> io::Result<()> {
     for length in 0..bytes.len() {
-        refused_case(rt, tally, &bytes[..length])?;
+        refused_case(report, &bytes[..length])?;
     }
     Ok(())
 }
@@ -122,8 +117,7 @@ impl fmt::Display for Written<'_> {
 
 // Writes the call into a buffer of a size, which is then to begin with the record; where there is none, the call is to be refused.
 fn write_case(
-    rt: &impl Print,
-    tally: &mut Tally,
+    report: &mut Report<impl Print>,
     call: CallRecord,
     size: usize,
     record: Option<&[u8]>,
@@ -131,7 +125,7 @@ fn write_case(
     let size = size.min(24);
     let mut buffer = buffer_with(b"");
     let room = &mut buffer[..size];
-    let reply = Reply(answers::numbers(record::write(call, room)));
+    let reply = Reply::from(record::write(call, room));
     let found = Written {
         reply,
         buffer: room,
@@ -141,11 +135,11 @@ fn write_case(
         reply: record.map_or(REFUSED, granted),
         buffer: &begun[..size],
     };
-    print!(rt;
+    print!(report.rt;
         "write {} into {size} bytes: {found}; expected {expected}",
         Fields(call)
     )?;
-    tally.count(rt, found == expected)
+    report.end(found == expected)
 }
 
 fn granted(record: &[u8]) -> Reply {
@@ -157,31 +151,31 @@ fn granted(record: &[u8]) -> Reply {
 }
 
 // With room after the record, with just enough, and with a byte too few.
-fn write_cases(rt: &impl Print, tally: &mut Tally, record: Record) -> io::Result<()> {
+fn write_cases(report: &mut Report<impl Print>, record: Record) -> io::Result<()> {
     let bytes = record.bytes;
     let length = bytes.len();
-    write_case(rt, tally, record.call, length + 2, Some(bytes))?;
-    write_case(rt, tally, record.call, length, Some(bytes))?;
-    write_case(rt, tally, record.call, length.saturating_sub(1), None)
+    write_case(report, record.call, length + 2, Some(bytes))?;
+    write_case(report, record.call, length, Some(bytes))?;
+    write_case(report, record.call, length.saturating_sub(1), None)
 }
 
 // ---- records of each kind
 
-fn record_cases(rt: &impl Print, tally: &mut Tally, record: Record) -> io::Result<()> {
+fn record_cases(report: &mut Report<impl Print>, record: Record) -> io::Result<()> {
     let bytes = record.bytes;
-    let expected = Ok(RecordRead {
+    let expected = Reading(Ok(RecordRead {
         length: bytes.len(),
         call: record.call,
-    });
-    read_case(rt, tally, bytes, expected)?;
-    read_case(rt, tally, &buffer_with(bytes), expected)?;
-    cut_cases(rt, tally, bytes)?;
-    write_cases(rt, tally, record)
+    }));
+    read_case(report, bytes, expected)?;
+    read_case(report, &buffer_with(bytes), expected)?;
+    cut_cases(report, bytes)?;
+    write_cases(report, record)
 }
 
-fn kinds_cases(rt: &impl Print, tally: &mut Tally) -> io::Result<()> {
+fn kinds_cases(report: &mut Report<impl Print>) -> io::Result<()> {
     for record in &RECORDS {
-        record_cases(rt, tally, *record)?;
+        record_cases(report, *record)?;
     }
     Ok(())
 }
@@ -296,43 +290,43 @@ const FIELDS: [(u32, CallRecord); 14] = [
 ];
 
 // The fields that are foreign to the kind; a kind that is none has not even a time.
-fn foreign_cases(rt: &impl Print, tally: &mut Tally, kind: u8) -> io::Result<()> {
+fn foreign_cases(report: &mut Report<impl Print>, kind: u8) -> io::Result<()> {
     for (field, call) in FIELDS {
         if own_fields(kind) & field == 0 {
-            write_case(rt, tally, CallRecord { kind, ..call }, 12, None)?;
+            write_case(report, CallRecord { kind, ..call }, 12, None)?;
         }
     }
     Ok(())
 }
 
 // For each kind and for 0 and 6.
-fn all_foreign_cases(rt: &impl Print, tally: &mut Tally) -> io::Result<()> {
+fn all_foreign_cases(report: &mut Report<impl Print>) -> io::Result<()> {
     for kind in 0..=6 {
-        foreign_cases(rt, tally, kind)?;
+        foreign_cases(report, kind)?;
     }
     Ok(())
 }
 
 // ---- damaged records
 
-fn damaged_cases(rt: &impl Print, tally: &mut Tally, rows: &[Damaged]) -> io::Result<()> {
+fn damaged_cases(report: &mut Report<impl Print>, rows: &[Damaged]) -> io::Result<()> {
     for &Damaged(what, bytes) in rows {
-        print!(rt; "{what}: ")?;
-        refused_case(rt, tally, bytes)?;
+        print!(report.rt; "{what}: ")?;
+        refused_case(report, bytes)?;
     }
     Ok(())
 }
 
-fn all_damaged_cases(rt: &impl Print, tally: &mut Tally) -> io::Result<()> {
-    damaged_cases(rt, tally, &BITS)?;
-    damaged_cases(rt, tally, &LACKING)?;
-    damaged_cases(rt, tally, &FOREIGN)?;
-    damaged_cases(rt, tally, &KINDS)?;
-    damaged_cases(rt, tally, &ZEROS)
+fn all_damaged_cases(report: &mut Report<impl Print>) -> io::Result<()> {
+    damaged_cases(report, &BITS)?;
+    damaged_cases(report, &LACKING)?;
+    damaged_cases(report, &FOREIGN)?;
+    damaged_cases(report, &KINDS)?;
+    damaged_cases(report, &ZEROS)
 }
 
-pub fn run(rt: &impl Print, tally: &mut Tally) -> io::Result<()> {
-    kinds_cases(rt, tally)?;
-    all_foreign_cases(rt, tally)?;
-    all_damaged_cases(rt, tally)
+pub fn run(report: &mut Report<impl Print>) -> io::Result<()> {
+    kinds_cases(report)?;
+    all_foreign_cases(report)?;
+    all_damaged_cases(report)
 }

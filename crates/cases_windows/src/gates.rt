@@ -1,16 +1,8 @@
 // The windows of each session on a Monday, a Tuesday and a Wednesday.
 use super::{HOURS_OF_DAYS, MODELS, Model, Place};
-use cases_printing::Tally;
+use cases_printing::{Report, Weekday};
 use rules::{Hour, Session, Timing};
 use std::{fmt, io};
-
-// The number is what the calls take.
-#[derive(Clone, Copy, PartialEq, Debug)]
-enum Weekday {
-    Monday = 1,
-    Tuesday = 2,
-    Wednesday = 3,
-}
 
 const WEEKDAYS: [Weekday; 3] = [Weekday::Monday, Weekday::Tuesday, Weekday::Wednesday];
 
@@ -161,6 +153,19 @@ impl Case {
     }
 }
 
+impl fmt::Display for Case {
+    fn fmt<W: fmt::Write>(&self, f: &mut fmt::Formatter<W>) -> fmt::Result {
+        let weekday = self.weekday;
+        let place = self.place;
+        write!(
+            f,
+            "{weekday:?} {place}, hour {}, {}",
+            self.hour(),
+            self.name()
+        )
+    }
+}
+
 // The number of the refusal that is due, if any.
 fn word_of(timing: Timing) -> &'static str {
     match timing {
@@ -170,54 +175,47 @@ fn word_of(timing: Timing) -> &'static str {
     }
 }
 
+// Each minute with what was found, and a comma.
+#[derive(Clone, Copy)]
+struct Found(Case);
+
+impl fmt::Display for Found {
+    fn fmt<W: fmt::Write>(&self, f: &mut fmt::Formatter<W>) -> fmt::Result {
+        for minute in self.0.window().minutes {
+            write!(f, "{minute} {}, ", word_of(self.0.found(minute)))?;
+        }
+        Ok(())
+    }
+}
+
+// What is expected at each minute, with a space before it.
+#[derive(Clone, Copy)]
+struct Expected(Case);
+
+impl fmt::Display for Expected {
+    fn fmt<W: fmt::Write>(&self, f: &mut fmt::Formatter<W>) -> fmt::Result {
+        for minute in self.0.window().minutes {
+            write!(f, " {}", word_of(self.0.expected(minute)))?;
+        }
+        Ok(())
+    }
+}
+
 // ---- cases
 
-fn print_case(rt: &impl Print, case: Case) -> io::Result<()> {
-    let weekday = case.weekday;
-    let place = case.place;
-    print!(rt;
-        "{weekday:?} {place}, hour {}, {}: ",
-        case.hour(),
-        case.name()
-    )
-}
-
-fn print_found(rt: &impl Print, case: Case) -> io::Result<()> {
-    for minute in case.window().minutes {
-        print!(rt; "{minute} {}, ", word_of(case.found(minute)))?;
-    }
-    Ok(())
-}
-
-fn print_expected(rt: &impl Print, case: Case) -> io::Result<()> {
-    print!(rt; "expected")?;
-    for minute in case.window().minutes {
-        print!(rt; " {}", word_of(case.expected(minute)))?;
-    }
-    Ok(())
-}
-
-fn window_case(rt: &impl Print, tally: &mut Tally, case: Case) -> io::Result<()> {
-    print_case(rt, case)?;
-    print_found(rt, case)?;
-    print_expected(rt, case)?;
-    tally.count(rt, case.is_as_expected())
+fn window_case(report: &mut Report<impl Print>, case: Case) -> io::Result<()> {
+    print!(report.rt; "{case}: {}expected{}", Found(case), Expected(case))?;
+    report.end(case.is_as_expected())
 }
 
 // The hold is tried on Wednesdays alone.
-fn window_cases(
-    rt: &impl Print,
-    tally: &mut Tally,
-    weekday: Weekday,
-    place: Place,
-) -> io::Result<()> {
+fn window_cases(report: &mut Report<impl Print>, weekday: Weekday, place: Place) -> io::Result<()> {
     for calls in CALLS {
         if calls == Calls::BidsAboutHold && weekday != Weekday::Wednesday {
             continue;
         }
         window_case(
-            rt,
-            tally,
+            report,
             Case {
                 weekday,
                 place,
@@ -229,8 +227,7 @@ fn window_cases(
 }
 
 fn model_cases(
-    rt: &impl Print,
-    tally: &mut Tally,
+    report: &mut Report<impl Print>,
     weekday: Weekday,
     hours: u8,
     model: Model,
@@ -241,33 +238,33 @@ fn model_cases(
             model,
             session,
         };
-        window_cases(rt, tally, weekday, place)?;
+        window_cases(report, weekday, place)?;
     }
     Ok(())
 }
 
-fn day_cases(rt: &impl Print, tally: &mut Tally, weekday: Weekday, hours: u8) -> io::Result<()> {
+fn day_cases(report: &mut Report<impl Print>, weekday: Weekday, hours: u8) -> io::Result<()> {
     for model in MODELS {
-        model_cases(rt, tally, weekday, hours, model)?;
+        model_cases(report, weekday, hours, model)?;
     }
     Ok(())
 }
 
-fn weekday_cases(rt: &impl Print, tally: &mut Tally, weekday: Weekday) -> io::Result<()> {
+fn weekday_cases(report: &mut Report<impl Print>, weekday: Weekday) -> io::Result<()> {
     if weekday == Weekday::Tuesday {
-        println!(rt; "Tuesday 23 hours: there is no such day")?;
-        println!(rt; "Tuesday 25 hours: there is no such day")?;
-        return day_cases(rt, tally, weekday, 24);
+        println!(report.rt; "Tuesday 23 hours: there is no such day")?;
+        println!(report.rt; "Tuesday 25 hours: there is no such day")?;
+        return day_cases(report, weekday, 24);
     }
     for hours in HOURS_OF_DAYS {
-        day_cases(rt, tally, weekday, hours)?;
+        day_cases(report, weekday, hours)?;
     }
     Ok(())
 }
 
-pub fn run(rt: &impl Print, tally: &mut Tally) -> io::Result<()> {
+pub fn run(report: &mut Report<impl Print>) -> io::Result<()> {
     for weekday in WEEKDAYS {
-        weekday_cases(rt, tally, weekday)?;
+        weekday_cases(report, weekday)?;
     }
     Ok(())
 }

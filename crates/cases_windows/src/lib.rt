@@ -5,7 +5,7 @@
 mod gates;
 mod sessions;
 
-use cases_printing::Tally;
+use cases_printing::Report;
 use day::{Day, DaySession};
 use rules::Session;
 use std::{fmt, io};
@@ -78,7 +78,7 @@ fn session_count(hours: u8, model: Model) -> u8 {
     }
 }
 
-pub fn run(rt: &impl Print, tally: &mut Tally) -> io::Result<()> {
-    sessions::run(rt, tally)?;
-    gates::run(rt, tally)
+pub fn run(report: &mut Report<impl Print>) -> io::Result<()> {
+    sessions::run(report)?;
+    gates::run(report)
 }

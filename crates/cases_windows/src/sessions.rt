@@ -1,6 +1,6 @@
 // The sessions of each day and their hours.
 use super::{HOURS_OF_DAYS, MODELS, Model, Place};
-use cases_printing::Tally;
+use cases_printing::Report;
 use rules::Hour;
 use std::{fmt, io};
 
@@ -44,40 +44,34 @@ fn hours_of(place: Place) -> Hours {
 
 // ---- cases
 
-fn session_case(
-    rt: &impl Print,
-    tally: &mut Tally,
-    place: Place,
-    expected: Hours,
-) -> io::Result<()> {
-    print!(rt; "{place}: ")?;
-    tally.compare(rt, &hours_of(place), &expected)
+fn session_case(report: &mut Report<impl Print>, place: Place, expected: Hours) -> io::Result<()> {
+    print!(report.rt; "{place}: ")?;
+    report.compare(&hours_of(place), &expected)
 }
 
-fn hour_case(rt: &impl Print, tally: &mut Tally, place: Place, hour: u16) -> io::Result<()> {
-    print!(rt; "{place}, hour {hour}: in session ")?;
-    tally.compare(rt, &session_of(place, (hour % 256) as u8), &place.session)
+fn hour_case(report: &mut Report<impl Print>, place: Place, hour: u16) -> io::Result<()> {
+    print!(report.rt; "{place}, hour {hour}: in session ")?;
+    report.compare(&session_of(place, (hour % 256) as u8), &place.session)
 }
 
 // The session and each of its hours.
-fn hour_cases(rt: &impl Print, tally: &mut Tally, place: Place) -> io::Result<()> {
+fn hour_cases(report: &mut Report<impl Print>, place: Place) -> io::Result<()> {
     let first = place.first();
     let last = place.last();
     let count = last.saturating_add(1).saturating_sub(first);
-    session_case(rt, tally, place, Hours(Some(Span { count, first })))?;
+    session_case(report, place, Hours(Some(Span { count, first })))?;
     for hour in first..=last {
-        hour_case(rt, tally, place, hour)?;
+        hour_case(report, place, hour)?;
     }
     Ok(())
 }
 
 // Each session of a model, then the absent ones before the first and past the last.
-fn model_cases(rt: &impl Print, tally: &mut Tally, hours: u8, model: Model) -> io::Result<()> {
+fn model_cases(report: &mut Report<impl Print>, hours: u8, model: Model) -> io::Result<()> {
     let sessions = super::session_count(hours, model);
     for session in 1..=sessions {
         hour_cases(
-            rt,
-            tally,
+            report,
             Place {
                 hours,
                 model,
@@ -87,8 +81,7 @@ fn model_cases(rt: &impl Print, tally: &mut Tally, hours: u8, model: Model) -> i
     }
     for session in [0, sessions.saturating_add(1)] {
         session_case(
-            rt,
-            tally,
+            report,
             Place {
                 hours,
                 model,
@@ -100,16 +93,16 @@ fn model_cases(rt: &impl Print, tally: &mut Tally, hours: u8, model: Model) -> i
     Ok(())
 }
 
-fn day_cases(rt: &impl Print, tally: &mut Tally, hours: u8) -> io::Result<()> {
+fn day_cases(report: &mut Report<impl Print>, hours: u8) -> io::Result<()> {
     for model in MODELS {
-        model_cases(rt, tally, hours, model)?;
+        model_cases(report, hours, model)?;
     }
     Ok(())
 }
 
-pub fn run(rt: &impl Print, tally: &mut Tally) -> io::Result<()> {
+pub fn run(report: &mut Report<impl Print>) -> io::Result<()> {
     for hours in HOURS_OF_DAYS {
-        day_cases(rt, tally, hours)?;
+        day_cases(report, hours)?;
     }
     Ok(())
 }

@@ -1,12 +1,11 @@
 -- A change of cells within one run of cells changes just the part of the book that is read from it.
 -- Assumes nothing.
-use Prim.Native.Nat.{ℕ, ◌+◌, ◌*◌, ◌≤◌, ◌<◌, min}
-use mathlib.Core.Path.{◌≡◌, ◌∙◌}
-use mathlib.Core.List.{List}
+use Rattle.std.proofs.Common.{ℕ, ◌+◌, ◌*◌, ◌≤◌, ◌<◌, min, Bool, true, false, ◌||◌, if◌then◌else◌, nat_le, List, ◌≡◌, ◌∙◌, refl}
+use borrow.Author.Tests.{leb-true}
 use native.Mathlib.Nat.{le_trans, lt_of_lt_of_le}
 use native.Mathlib.Omega.{arith}
 use lib.Dec.{lit≤, lit<}
-use Rattle.rules.specs.Book.{direction_limit, pair_limit, party_limit, profile_limit, right_limit}
+use Rattle.rules.specs.Book.{Book, direction_limit, pair_limit, party_limit, profile_limit, right_limit}
 use Rattle.cells.specs.Updates.{with_directions, with_profiles, with_parties, with_offered, with_granted, with_rights, with_pairs, with_matched}
 use Rattle.cells.specs.Loops.{rows}
 use Rattle.cells.specs.Layout.{CELLS, YEAR, MONTH, DAY, HOURS, WEEKDAY, CLOCK, STARTED, DIRECTIONS, PROFILES, PARTIES, OFFERED, GRANTED, MATCHED, RIGHTS, PAIRS}
@@ -111,47 +110,92 @@ module _ (b b' : List ℕ) where
 
   -- ---- and a change within one run leaves all other parts alone
 
-  pub only_directions : Within DIRECTIONS PROFILES b b' → book_of b' ≡ with_directions (book_of b) (directions_in b')
+  -- what f reads from the cells from `first` on and before `last`: as it was, where the change lies elsewhere
+  unfoldable read_after : {A : Type 0} → (List ℕ → A) → ℕ → ℕ → ℕ → ℕ → A
+  read_after f lo hi first last = if nat_le last lo || nat_le hi first then f b else f b'
+
+  reads : {A : Type 0} (f : List ℕ → A) (lo hi first last : ℕ) → Within lo hi b b' → (Agree first last b b' → f b' ≡ f b)
+      → f b' ≡ read_after f lo hi first last
+  unfolding read_after
+  reads f lo hi first last w same = go (nat_le last lo) (nat_le hi first) refl refl
+    where
+      go : (before behind : Bool) → nat_le last lo ≡ before → nat_le hi first ≡ behind → f b' ≡ (if before || behind then f b else f b')
+      go true behind p q = same (under w (leb-true last lo p))
+      go false true p q = same (over w (leb-true hi first q))
+      go false false p q = refl
+
+  -- the book after a change within one run, part by part
+  abbrev book_after : ℕ → ℕ → Book
+  book_after lo hi =
+      record {
+        day = record {
+          date = read_after date_in lo hi YEAR HOURS;
+          hours = read_after day_hours_in lo hi HOURS WEEKDAY;
+          weekday = read_after weekday_in lo hi WEEKDAY CLOCK;
+        };
+        started = read_after started_in lo hi STARTED DIRECTIONS;
+        clock = read_after clock_in lo hi CLOCK STARTED;
+        directions = read_after directions_in lo hi DIRECTIONS PROFILES;
+        profiles = read_after profiles_in lo hi PROFILES PARTIES;
+        parties = read_after parties_in lo hi PARTIES OFFERED;
+        offered = read_after offered_in lo hi OFFERED GRANTED;
+        granted = read_after granted_in lo hi GRANTED MATCHED;
+        rights = read_after rights_in lo hi RIGHTS PAIRS;
+        pairs = read_after pairs_in lo hi PAIRS CELLS;
+        matched = read_after matched_in lo hi MATCHED RIGHTS;
+      }
+
+  changes : (lo hi : ℕ) → Within lo hi b b' → book_of b' ≡ book_after lo hi
   unfolding book_of
-  only_directions w =
-      rw (date_agree (under w (lit≤ tt)), hours_agree (under w (lit≤ tt)), weekday_agree (under w (lit≤ tt)), started_agree (under w (lit≤ tt)), clock_agree (under w (lit≤ tt)), profiles_agree (over w (lit≤ tt)), parties_agree (over w (lit≤ tt)), offered_agree (over w (lit≤ tt)), granted_agree (over w (lit≤ tt)), rights_agree (over w (lit≤ tt)), pairs_agree (over w (lit≤ tt)), matched_agree (over w (lit≤ tt)))
+  changes lo hi w =
+      rw (
+        reads date_in lo hi YEAR HOURS w date_agree,
+        reads day_hours_in lo hi HOURS WEEKDAY w hours_agree,
+        reads weekday_in lo hi WEEKDAY CLOCK w weekday_agree,
+        reads started_in lo hi STARTED DIRECTIONS w started_agree,
+        reads clock_in lo hi CLOCK STARTED w clock_agree,
+        reads directions_in lo hi DIRECTIONS PROFILES w directions_agree,
+        reads profiles_in lo hi PROFILES PARTIES w profiles_agree,
+        reads parties_in lo hi PARTIES OFFERED w parties_agree,
+        reads offered_in lo hi OFFERED GRANTED w offered_agree,
+        reads granted_in lo hi GRANTED MATCHED w granted_agree,
+        reads rights_in lo hi RIGHTS PAIRS w rights_agree,
+        reads pairs_in lo hi PAIRS CELLS w pairs_agree,
+        reads matched_in lo hi MATCHED RIGHTS w matched_agree,
+      )
+
+  pub only_directions : Within DIRECTIONS PROFILES b b' → book_of b' ≡ with_directions (book_of b) (directions_in b')
+  unfolding book_of read_after
+  only_directions w = changes DIRECTIONS PROFILES w
 
   pub only_profiles : Within PROFILES PARTIES b b' → book_of b' ≡ with_profiles (book_of b) (profiles_in b')
-  unfolding book_of
-  only_profiles w =
-      rw (date_agree (under w (lit≤ tt)), hours_agree (under w (lit≤ tt)), weekday_agree (under w (lit≤ tt)), started_agree (under w (lit≤ tt)), clock_agree (under w (lit≤ tt)), directions_agree (under w (lit≤ tt)), parties_agree (over w (lit≤ tt)), offered_agree (over w (lit≤ tt)), granted_agree (over w (lit≤ tt)), rights_agree (over w (lit≤ tt)), pairs_agree (over w (lit≤ tt)), matched_agree (over w (lit≤ tt)))
+  unfolding book_of read_after
+  only_profiles w = changes PROFILES PARTIES w
 
   pub only_parties : Within PARTIES OFFERED b b' → book_of b' ≡ with_parties (book_of b) (parties_in b')
-  unfolding book_of
-  only_parties w =
-      rw (date_agree (under w (lit≤ tt)), hours_agree (under w (lit≤ tt)), weekday_agree (under w (lit≤ tt)), started_agree (under w (lit≤ tt)), clock_agree (under w (lit≤ tt)), directions_agree (under w (lit≤ tt)), profiles_agree (under w (lit≤ tt)), offered_agree (over w (lit≤ tt)), granted_agree (over w (lit≤ tt)), rights_agree (over w (lit≤ tt)), pairs_agree (over w (lit≤ tt)), matched_agree (over w (lit≤ tt)))
+  unfolding book_of read_after
+  only_parties w = changes PARTIES OFFERED w
 
   pub only_offered : Within OFFERED GRANTED b b' → book_of b' ≡ with_offered (book_of b) (offered_in b')
-  unfolding book_of
-  only_offered w =
-      rw (date_agree (under w (lit≤ tt)), hours_agree (under w (lit≤ tt)), weekday_agree (under w (lit≤ tt)), started_agree (under w (lit≤ tt)), clock_agree (under w (lit≤ tt)), directions_agree (under w (lit≤ tt)), profiles_agree (under w (lit≤ tt)), parties_agree (under w (lit≤ tt)), granted_agree (over w (lit≤ tt)), rights_agree (over w (lit≤ tt)), pairs_agree (over w (lit≤ tt)), matched_agree (over w (lit≤ tt)))
+  unfolding book_of read_after
+  only_offered w = changes OFFERED GRANTED w
 
   pub only_granted : Within GRANTED MATCHED b b' → book_of b' ≡ with_granted (book_of b) (granted_in b')
-  unfolding book_of
-  only_granted w =
-      rw (date_agree (under w (lit≤ tt)), hours_agree (under w (lit≤ tt)), weekday_agree (under w (lit≤ tt)), started_agree (under w (lit≤ tt)), clock_agree (under w (lit≤ tt)), directions_agree (under w (lit≤ tt)), profiles_agree (under w (lit≤ tt)), parties_agree (under w (lit≤ tt)), offered_agree (under w (lit≤ tt)), rights_agree (over w (lit≤ tt)), pairs_agree (over w (lit≤ tt)), matched_agree (over w (lit≤ tt)))
+  unfolding book_of read_after
+  only_granted w = changes GRANTED MATCHED w
 
   pub only_rights : Within RIGHTS PAIRS b b' → book_of b' ≡ with_rights (book_of b) (rights_in b')
-  unfolding book_of
-  only_rights w =
-      rw (date_agree (under w (lit≤ tt)), hours_agree (under w (lit≤ tt)), weekday_agree (under w (lit≤ tt)), started_agree (under w (lit≤ tt)), clock_agree (under w (lit≤ tt)), directions_agree (under w (lit≤ tt)), profiles_agree (under w (lit≤ tt)), parties_agree (under w (lit≤ tt)), offered_agree (under w (lit≤ tt)), granted_agree (under w (lit≤ tt)), pairs_agree (over w (lit≤ tt)), matched_agree (under w (lit≤ tt)))
+  unfolding book_of read_after
+  only_rights w = changes RIGHTS PAIRS w
 
   pub only_pairs : Within PAIRS CELLS b b' → book_of b' ≡ with_pairs (book_of b) (pairs_in b')
-  unfolding book_of
-  only_pairs w =
-      rw (date_agree (under w (lit≤ tt)), hours_agree (under w (lit≤ tt)), weekday_agree (under w (lit≤ tt)), started_agree (under w (lit≤ tt)), clock_agree (under w (lit≤ tt)), directions_agree (under w (lit≤ tt)), profiles_agree (under w (lit≤ tt)), parties_agree (under w (lit≤ tt)), offered_agree (under w (lit≤ tt)), granted_agree (under w (lit≤ tt)), rights_agree (under w (lit≤ tt)), matched_agree (under w (lit≤ tt)))
+  unfolding book_of read_after
+  only_pairs w = changes PAIRS CELLS w
 
   pub only_matched : Within MATCHED RIGHTS b b' → book_of b' ≡ with_matched (book_of b) (matched_in b')
-  unfolding book_of
-  only_matched w =
-      rw (date_agree (under w (lit≤ tt)), hours_agree (under w (lit≤ tt)), weekday_agree (under w (lit≤ tt)), started_agree (under w (lit≤ tt)), clock_agree (under w (lit≤ tt)), directions_agree (under w (lit≤ tt)), profiles_agree (under w (lit≤ tt)), parties_agree (under w (lit≤ tt)), offered_agree (under w (lit≤ tt)), granted_agree (under w (lit≤ tt)), rights_agree (over w (lit≤ tt)), pairs_agree (over w (lit≤ tt)))
+  unfolding book_of read_after
+  only_matched w = changes MATCHED RIGHTS w
 
-  pub only_clock : Within CLOCK DIRECTIONS b b' → book_of b' ≡ record { day = (book_of b).day; started = started_in b'; clock = clock_in b'; directions = (book_of b).directions; profiles = (book_of b).profiles; parties = (book_of b).parties; offered = (book_of b).offered; granted = (book_of b).granted; rights = (book_of b).rights; pairs = (book_of b).pairs; matched = (book_of b).matched }
-  unfolding book_of
-  only_clock w =
-      rw (date_agree (under w (lit≤ tt)), hours_agree (under w (lit≤ tt)), weekday_agree (under w (lit≤ tt)), directions_agree (over w (lit≤ tt)), profiles_agree (over w (lit≤ tt)), parties_agree (over w (lit≤ tt)), offered_agree (over w (lit≤ tt)), granted_agree (over w (lit≤ tt)), rights_agree (over w (lit≤ tt)), pairs_agree (over w (lit≤ tt)), matched_agree (over w (lit≤ tt)))
+  pub only_clock : Within CLOCK DIRECTIONS b b' → book_of b' ≡ record (book_of b) { started = started_in b'; clock = clock_in b' }
+  unfolding book_of read_after
+  only_clock w = changes CLOCK DIRECTIONS w

@@ -1,22 +1,27 @@
 -- What the code reads in cells, as the rules read it in the book.
 -- Assumes nothing.
-use Prim.Native.Nat.{ℕ, ◌+◌, ◌*◌, ◌-◌, ◌≤◌, ◌<◌}
+use Prim.Native.Nat.{ℕ, ◌+◌, ◌-◌, ◌^◌, ◌≤◌, ◌<◌}
+use Rattle.std.proofs.Common.{slice_index_or}
 use mathlib.Core.Path.{◌≡◌, refl, sym, ap, ◌∙◌}
-use mathlib.Core.Bool.{Bool, true, false, cond, ◌||◌, ◌&&◌, not, true≢false}
-use mathlib.Core.List.{List, []}
+use mathlib.Core.Bool.{Bool, true, false, cond, ◌||◌, ◌&&◌, true≢false}
+use mathlib.Core.List.{List}
 use native.Mathlib.Omega.{arith}
 use native.Mathlib.Nat.{zero-add}
 use lib.Dec.{eqb, leb, ltb, lit≤}
 use borrow.Author.Tests.{leb-false, ltb-false}
 use lib.ListN.{length, get_or, get_or-eq_default}
 use Rattle.rules.specs.Calendar.{is_date}
-use Rattle.rules.specs.Sessions.{session_there, hours_in}
-use Rattle.rules.specs.Book.{BookDate, NoDate, On, Direction, Party, Pair, place, direction, party, right, left_at, shortfall_at, model_of, direction_limit, pair_limit, party_limit, profile_limit, right_limit}
-use Rattle.rules.specs.Refusals.{direction_unknown, session_unknown, hour_unknown}
-use Rattle.cells.specs.Layout.{YEAR, MONTH, DAY, HOURS, DIRECTIONS, PROFILES, PARTIES, OFFERED, GRANTED, MATCHED, RIGHTS, PAIRS}
-use Rattle.cells.specs.View.{InHour, cell, cell_from, part, counted, date_in, day_hours_in, direction_at, directions_in, profiles_in, party_at, parties_in, offered_in, granted_in, matched_in, right_at, rights_in, pair_at, pairs_in, book_of}
+use Rattle.rules.specs.Sessions.{hours_in}
+use Rattle.rules.specs.Book.{BookDate, NoDate, On, Direction, Pair, place, direction, right, left_at, shortfall_at, model_of, direction_limit, pair_limit, party_limit, profile_limit, right_limit}
+use Rattle.rules.specs.Refusals.{direction_unknown, hour_unknown}
+use Rattle.cells.specs.Layout.{CELLS, YEAR, MONTH, DAY, HOURS, DIRECTIONS, PROFILES, PARTIES, OFFERED, GRANTED, MATCHED, RIGHTS, PAIRS}
+use Rattle.cells.specs.View.{InHour, Cells, cell, cell_from, part, counted, date_in, day_hours_in, direction_at, directions_in, profiles_in, party_at, parties_in, offered_in, granted_in, matched_in, right_at, rights_in, pair_at, pairs_in, book_of}
 use Rattle.rules.proofs.Bools.{or_left, or_right}
 use Rattle.cells.proofs.Rows.{rows-length, rows_at}
+
+-- what is known of a lent book, as the code takes it: its count of cells, and that each is a number of 32 bits
+pub lent_cells : {b : List ℕ} → length b ≡ CELLS → ((i : ℕ) → slice_index_or b i 0 < 2 ^ 32) → Cells b
+lent_cells count each = record { count = count; each = λ i l. each i }
 
 pub part_length : (b : List ℕ) (at n : ℕ) → length (part b at n) ≡ n
 unfolding part

@@ -43,16 +43,11 @@ pub record Places (row hour r : ℕ) : Type 0 where
   pub below : r < 800
 
 -- what is known of any book's cells: their count, and that each is a number of 32 bits
-pub record InRange (b : List ℕ) (n : ℕ) : Type 0 where
-  pub count : n ≡ length b
-  pub each : (i : ℕ) → i < length b → cell b i < 2 ^ 32
-
--- the same of a whole book
 pub record Cells (b : List ℕ) : Type 0 where
   pub count : length b ≡ CELLS
   pub each : (i : ℕ) → i < CELLS → cell b i < 2 ^ 32
 
--- ---- what cells hold, whatever they are
+-- ---- what cells hold, whatever they are: rows stand cell by cell, to be read beside `Layout`
 
 -- a year, month and day that are no date are read as none
 abbrev pub date_read : ℕ → ℕ → ℕ → BookDate

@@ -4,7 +4,7 @@
 ghost use Rattle.std.specs.Prelude.{◌≡◌, ◌+◌, ◌*◌, ◌<◌, ◌≤◌, nat_le};
 ghost use Rattle.rules.specs.Book.{flag};
 ghost use Rattle.cells.specs.Layout.{CELLS};
-ghost use Rattle.cells.specs.View.{InHour, Places, InRange, Cells, counted, rows_in, day_hours_in, started_in, weekday_in, clock_in};
+ghost use Rattle.cells.specs.View.{InHour, Places, counted, rows_in, day_hours_in, started_in, weekday_in, clock_in};
 
 use day::Day;
 use rules::{Hour, Session};
@@ -40,6 +40,7 @@ pub const MATCHED_SESSIONS: usize = 2778;
 // How many cells a book has.
 pub const CELLS: usize = 14132;
 
+// One array that the caller lends to each call: no call allocates or copies a book, and any content is one.
 pub type Book = [u32; CELLS];
 
 // A table: the cell of its count, and behind it the rows, of so many cells each.
@@ -93,23 +94,6 @@ impl Place {
     {
         self.row as usize * 25 + (self.hour.0 as usize - 1)
     }
-}
-
-// Each cell is a number of 32 bits.
-fn in_range(s: &[u32]) -> usize
-    ensures { InRange s.now result }
-{
-    if 0 < s.len() {
-        let x = s[0];
-    }
-    s.len()
-}
-
-// It does nothing: the count of cells and their range are for the proofs of callers.
-pub fn cells_in(book: &Book)
-    ensures { Cells book.now }
-{
-    in_range(book);
 }
 
 #[tactic(auto, unfolding(crate::specs::View::day_hours_in))]

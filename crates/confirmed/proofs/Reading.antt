@@ -1,14 +1,12 @@
 -- What the tests of the read found, and the reply of the rules: 6 before 12 before the confirmed MW.
 -- Assumes nothing.
-use Rattle.std.proofs.Common.{◌≡◌, ℕ, ◌<◌, true, false, List, [], Option, None, Result, Ok, Err, length, get_or, refl, ◌∙◌}
+use Rattle.std.proofs.Common.{◌≡◌, ℕ, ◌<◌, true, false, List, [], Ok, Err, length, get_or, refl, ◌∙◌}
 use Rattle.std.proofs.lemmas.List.{get_or_default}
-use Rattle.std.specs.Option.{ok_or}
 use Rattle.rules.specs.Basics.{five}
 use Rattle.rules.specs.Book.{Book, right, pair_limit}
 use Rattle.rules.specs.Nominations.{pair_taken, pair_of, empty_pair, confirmed_at}
 use Rattle.rules.specs.Refusals.{order, first_of, right_unknown, is_matched}
 use Rattle.rules.specs.Reads.{read_confirmed, confirmed_read_refuses}
-use Rattle.rules.specs.declared.Refusal.{Refusal}
 use Rattle.rules.specs.declared.Refusal.TheVariants.{Unknown, Cycle}
 use Rattle.rules.proofs.Matching.{pair_right}
 use Rattle.cells.specs.Layout.{PAIRS}
@@ -17,12 +15,6 @@ use Rattle.cells.proofs.Entries.{rows_counted, pairs_are, entry_is}
 use Rattle.answers.specs.Promises.{said_confirmed}
 use Rattle.totals.specs.Gathered.{lower_in, total_in}
 use Rattle.confirmed.specs.Work.{confirmed_in}
-
--- what a search that finds nothing is refused with
-pub refused_with : {A : Type 0} (e : Refusal) (x : Option A) → ◌≡◌ {A = Result A Refusal} (Err e) (ok_or x Unknown) → x ≡ None → e ≡ Unknown
-refused_with {A} e x v n =
-    let q : ◌≡◌ {A = Result A Refusal} (Err e) (Err Unknown) = rw n at v in
-    cc
 
 module _ (b : Book) (r o i : ℕ) where
   -- no such right

@@ -26,13 +26,7 @@ fn confirmed(held: u32, total: u64, m: u32) -> u32
 fn confirmed_five(held: [u32; 5], totals: [u64; 5], lower: [u32; 5]) -> [u32; 5]
     ensures { result ≡ five (confirmed_in held totals lower) }
 {
-    [
-        confirmed(held[0], totals[0], lower[0]),
-        confirmed(held[1], totals[1], lower[1]),
-        confirmed(held[2], totals[2], lower[2]),
-        confirmed(held[3], totals[3], lower[3]),
-        confirmed(held[4], totals[4], lower[4]),
-    ]
+    std::array::from_fn(|k| confirmed(held[k], totals[k], lower[k]))
 }
 
 // The confirmed MW of a pair.

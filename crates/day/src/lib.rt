@@ -6,14 +6,14 @@ ghost use Rattle.rules.specs.Sessions.{session_there, first_hour, hours_in, sess
 
 use rules::{Hour, Session};
 
-// A day's count of hours and its weekday, Monday 1 to Sunday 7. The weekday is a number: the cell that it comes from may hold any.
+// A day's count of hours and its weekday, Monday 1 to Sunday 7. The weekday is a number: the cell may hold any, and an enum would be turned back in each clause.
 #[derive(Clone, Copy)]
 pub struct Day {
     pub hours: u8,
     pub weekday: u32,
 }
 
-// A session of a day by the model, 1 or 4, and its number. The model is a number: the cell that it comes from may hold any.
+// A session of a day by the model, 1 or 4, and its number. The model is a number: the cell may hold any, and an enum would be turned back in each clause.
 #[derive(Clone, Copy)]
 pub struct DaySession {
     pub day: Day,
@@ -89,11 +89,7 @@ impl DaySession {
         ensures there { IsSome result ↔ (session_there self.day.hours self.model self.session.0 ≡ true) }
         ensures hour { IfSome result (λ hour. hour.0 ≡ first_hour_there self.day.hours self.model self.session.0) }
     {
-        if self.is_there() {
-            Some(Hour(self.first_number() as u8))
-        } else {
-            None
-        }
+        self.is_there().then(|| Hour(self.first_number() as u8))
     }
 
     // How many hours the session has.

@@ -1,4 +1,5 @@
-// The public calls of a day book. The book is a lent array of cells; no call has a `requires`, whatever the cells hold.
+// The public calls of a day book. The book is a lent array of cells; no call has a `requires`, whatever the cells hold. They take their numbers one by one:
+// demand 1 speaks of these.
 #![tactic(auto)]
 
 ghost use Rattle.std.specs.Prelude.{◌≡◌};
@@ -12,6 +13,7 @@ use cells::Book;
 use matching::MatchCall;
 use nomination_tests::NominationCall;
 use offers::OfferCall;
+use parties::Party;
 use rules::{Answer, Hour, Refusal, ReplyNumbers, Session};
 use tables::Direction;
 
@@ -47,7 +49,8 @@ pub fn add_profile(book: &mut Book, map: u32) -> Answer
 pub fn add_party(book: &mut Book, code: [u8; 16], access: u8) -> Answer
     ensures { Answers book.old (AddParty code access) result book.new }
 {
-    parties::add_party(book, code, access)
+    let party = Party { code, access };
+    parties::add_party(book, party)
 }
 
 // ---- offers

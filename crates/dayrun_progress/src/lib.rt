@@ -21,7 +21,8 @@ pub struct Progress<const ROOM: usize, const TEXT: usize> {
     pub done: bool,
 }
 
-// What the program does next: takes a record and answers it, writes the collected lines, reads, or ends. The promises speak of it, so it is a value.
+// What the program does next: takes a record and answers it, writes the collected lines, reads, or ends. A closure for the step would be
+// no plainer: the promises name the step, and `rt ci` refuses one that is handed out.
 #[derive(Clone, Copy)]
 pub enum Next {
     Take,

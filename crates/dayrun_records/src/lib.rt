@@ -24,7 +24,8 @@ pub fn open_book(book: &mut Book)
     let _ = daybook::add_party(book, *b"10XCZ-CEPS-GRIDE", 1);
 }
 
-// Makes the call of a record, by its kind, which is the record's own number and may be any byte (see `CallRecord`). A record of no kind is refused.
+// Makes the call of a record, by its kind; a record of no kind is refused. The kind is any byte (see `CallRecord`): an enum would be made from it for just
+// this match.
 fn answer_record(book: &mut Book, call: CallRecord) -> Answer
     ensures { AnswersRecord book.old call result book.new }
 {

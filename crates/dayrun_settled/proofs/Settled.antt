@@ -13,12 +13,12 @@ use lib.Seq.{get_or-append-add, get_or-drop}
 use borrow.Author.Tests.{le-ltb, ltb-true, ltb-false, ne_eqb, not-true, not-false}
 use Rattle.rules.specs.Basics.{bit, map_of, has}
 use Rattle.rules.specs.Records.{Kind, widths, kinds, kind_at, is_kind, stands, standing, map_for, bytes_of, number_at, map_at, taking, fields_at, fields_in, end_in, reader_refuses, RecordReply, reading}
-use Rattle.rules.proofs.Bools.{or_left, or_right, or-true, and_left, and_right}
+use Rattle.rules.proofs.Bools.{or_left, or_right, or-true, and_left}
 use Rattle.rules.proofs.Bits.{bit_of_map}
 use Rattle.rules.proofs.Records.{readable, Readable}
 use Rattle.dayrun_settled.specs.Settled.{longest, is_read, pattern, completed, can_be_read, settled, Bytes, SettledStays, Open, UnsettledOpen}
-use Rattle.dayrun_settled.proofs.Patterns.{read_1, read_2, read_3, read_4, read_5, nothing_open}
-use Rattle.dayrun_settled.proofs.Front.{taking_most, total, end_longest, end_least, map_front, whole_same, accepts, is_read_lem, refused_alike, read_whole}
+use Rattle.dayrun_settled.proofs.Patterns.{by_kind, pattern_read}
+use Rattle.dayrun_settled.proofs.Front.{taking_most, total, end_longest, end_least, map_front, whole_same, accepts, is_read_by, is_read_lem, refused_alike, read_whole}
 
 -- ---- a field that isn't wholly there
 
@@ -69,18 +69,6 @@ standing_fuller k map s u n (w ∷ ws) i at f l b =
     )
 
 -- ---- the pattern of a kind
-
-module _ (P : ℕ → Type 0) (p1 : P 1) (p2 : P 2) (p3 : P 3) (p4 : P 4) (p5 : P 5) where
-  by_kind : (k : ℕ) → is_kind k ≡ true → P k
-  by_kind zero e = absurd (false≢true e)
-  by_kind (suc zero) e = p1
-  by_kind (suc (suc zero)) e = p2
-  by_kind (suc (suc (suc zero))) e = p3
-  by_kind (suc (suc (suc (suc zero)))) e = p4
-  by_kind (suc (suc (suc (suc (suc zero))))) e = p5
-  by_kind (suc (suc (suc (suc (suc (suc k)))))) e =
-      let n : ℕ = suc (suc (suc (suc (suc (suc k))))) in
-      absurd (omega (arith, ltb-true n 6 (and_right (ltb 0 n) (ltb n 6) e)))
 
 pattern_size : (k : ℕ) → length (pattern k) ≡ longest
 unfolding pattern bytes_of
@@ -215,14 +203,14 @@ abbrev Begins : ℕ → Type 0
 Begins k = (s : List ℕ) (x m : ℕ) → x < 256 → x + 256 * m ≡ map_for k (fields_in s) → is_read (completed k (x ∷ [])) ≡ true
 
 begins : (k : ℕ) → is_kind k ≡ true → Begins k
-unfolding stands kinds has
+unfolding map_of has kinds stands standing bytes_of pattern completed
 begins =
     by_kind Begins
-    (λ s x m l q. let n : x ≡ 19 = omega (arith, q ∙ eight (kind_at 1) s) in rw n read_1)
-    (λ s x m l q. let n : x ≡ 35 = omega (arith, q ∙ eight (kind_at 2) s) in rw n read_2)
-    (λ s x m l q. let n : x ≡ 87 = omega (arith, q ∙ eight (kind_at 3) s) in rw n read_3)
-    (λ s x m l q. let n : x ≡ 143 = omega (arith, q ∙ eight (kind_at 4) s) in rw n read_4)
-    (λ s x m l q. let n : x ≡ 83 = omega (arith, q ∙ eight (kind_at 5) s) in rw n read_5)
+    (λ s x m l q. let n : x ≡ 19 = omega (arith, q ∙ eight (kind_at 1) s) in rw n (pattern_read 1 refl))
+    (λ s x m l q. let n : x ≡ 35 = omega (arith, q ∙ eight (kind_at 2) s) in rw n (pattern_read 2 refl))
+    (λ s x m l q. let n : x ≡ 87 = omega (arith, q ∙ eight (kind_at 3) s) in rw n (pattern_read 3 refl))
+    (λ s x m l q. let n : x ≡ 143 = omega (arith, q ∙ eight (kind_at 4) s) in rw n (pattern_read 4 refl))
+    (λ s x m l q. let n : x ≡ 83 = omega (arith, q ∙ eight (kind_at 5) s) in rw n (pattern_read 5 refl))
 
 -- ---- what can be read
 
@@ -240,10 +228,19 @@ open_can : (s : List ℕ) → settled s ≡ false → can_be_read s ≡ true
 unfolding settled
 open_can s e = not-false (can_be_read s) (or_right (is_read s) (not (can_be_read s)) e)
 
+nothing_can : can_be_read [] ≡ true
+unfolding completed
+nothing_can = any_kind [] 1 refl (pattern_read 1 refl)
+
+-- before the first byte nothing is settled
+pub nothing_open : settled [] ≡ false
+unfolding reader_refuses settled
+nothing_open = rw (is_read_by [] true refl, nothing_can) refl
+
 -- bytes that some that follow make a record of
 can_be : (s t : List ℕ) → Bytes s → is_read (s ++ t) ≡ true → can_be_read s ≡ true
 unfolding number_at
-can_be [] t fit ok = open_can [] nothing_open
+can_be [] t fit ok = nothing_can
 can_be (x ∷ []) t fit ok =
     let f = fine (x ∷ []) t ok in
     any_kind (x ∷ []) (kind (x ∷ []) t ok) f.kind (begins (kind (x ∷ []) t ok) f.kind (x ∷ t) x _ (fit 0) f.map)

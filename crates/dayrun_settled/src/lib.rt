@@ -7,7 +7,7 @@ ghost use Rattle.dayrun_settled.specs.Settled.{longest, is_read, can_be_read, se
 // The map and all fields that it has bits for: a bound that no record exceeds.
 pub const LONGEST: usize = 24;
 
-// Each kind, by the record's own number (see `CallRecord`), and the map of its record without MW, low byte first.
+// Each kind, and the map of its record without MW, low byte first. A kind is the byte that `is_read_as` completes a record with: of an enum it would be made again.
 const PATTERNS: [(u8, [u8; 2]); 5] = [
     (1, [0x13, 0x40]),
     (2, [0x23, 0x40]),

@@ -17,7 +17,7 @@ struct KindMaps {
     mws: u32,
 }
 
-// Bit 0 is rightmost. The kind stays a number: the writer promises a refusal for a number that is no kind, and an enum couldn't hold one.
+// Bit 0 is rightmost. By the kind's number: each function of this crate promises something for any number, and would make an enum from it.
 #[tactic(auto, using(crate::proofs::KindBits::no_kind_lem), unfolding(crate::specs::Fields::among_bits, rules::specs::Basics::map_of, rules::specs::Basics::has, rules::specs::Records::kinds))]
 fn maps_of(kind: u32) -> KindMaps
     ensures { result ≡ kind_maps (kind_at kind) }
@@ -144,7 +144,7 @@ impl Fields {
         self.0[0]
     }
 
-    // Not `From`, which can't ask its caller that the fields fit.
+    // Not `From`, which asks nothing of its caller. An invariant of `Fields` can't ask it either: fields that don't fit have a map, by which they are refused.
     #[tactic(auto, unfolding(rules::specs::Records::widths, rules::specs::Records::call_of))]
     pub fn call(self) -> CallRecord
         requires { FieldsFit self.0 }
@@ -172,21 +172,20 @@ impl Fields {
         }
     }
 
-    // The map of a record of the kind with these fields, from the last bit down.
-    #[tactic(auto, using(crate::proofs::Turns::map_next, crate::proofs::Turns::map_fits, crate::proofs::Turns::one_most))]
+    // The map of a record of the kind with these fields.
     pub fn map(self, kind: u32) -> u32
         ensures { result ≡ map_for kind self.0 }
     {
         let values = self.0;
         let mut map: u32 = 0;
-        for bit in (0..15).rev() {
+        for (bit, value) in values.iter().enumerate() {
             let field = Field { bit };
-            map = field.is_written(kind, values[bit]) as u32 + 2 * map;
+            map += (field.is_written(kind, *value) as u32) << bit;
         }
         map
     }
 
-    // A field that is foreign to the kind is not zero.
+    // A field that is foreign to the kind is not zero. `any` was tried: in its closure nothing says that the bit is a field's, and its proof didn't close.
     #[tactic(auto, using(std::proofs::lemmas::Bool::Decides::nat_tests, crate::proofs::Turns::foreign_next, crate::proofs::Turns::foreign_done))]
     pub fn any_foreign(self, kind: u32) -> bool
         ensures { result ≡ foreign (kind_at kind) 0 self.0 }

@@ -12,7 +12,8 @@ use rules::ReplyNumbers;
 // No line has more bytes: four numbers of at most twenty digits, each with a byte after it.
 pub const LINE: usize = 84;
 
-// A number in decimal, and the byte after it.
+// A number in decimal, and the byte after it. Not by `write!`: its `Result` may be an `Err` for all that it promises, where this can't fail and says how
+// long it gets.
 fn write_number<const CAP: usize>(lines: &mut ArrayVec<u8, CAP>, number: u64, ending: u8)
     requires { length lines.old.items + 21 ≤ CAP }
     ensures text { lines.new.items ≡ lines.old.items ++ (decimal number ++ (ending ∷ [])) }

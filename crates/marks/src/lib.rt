@@ -10,7 +10,8 @@ ghost use Rattle.marks.specs.Totals.{totals_of, marks_of};
 use cells::Book;
 use rules::Side;
 
-// The five MW of one side of a pair.
+// The five MW of one side of a pair. They stand written out: with `from_fn`, which proves, the load `nominate-few` takes more instructions than
+// plain Rust (680 million against 600), and as they stand fewer (docs/SPEED.md).
 #[tactic(auto, unfolding(cells::specs::View::part, cells::specs::View::cell_from, cells::specs::Loops::rows))]
 fn side_mw(row: &[u32; 13], side: Side) -> [u32; 5]
     ensures { result ≡ side_of (side_number side) (pair_read row.now) }
@@ -22,12 +23,14 @@ fn side_mw(row: &[u32; 13], side: Side) -> [u32; 5]
 }
 
 // A side's totals over all pairs of a right, in the five hours of the session.
+// Beside `totals::sums_of`: document 01 has the lower sides lent as a list, and here nothing is gathered.
 fn side_totals(book: &Book, right: u32, side: Side) -> [u64; 5]
     ensures { result ≡ totals_of right (side_number side) (book_of book.now).pairs }
 {
     let mut sums = [0; 5];
     for row in cells::PAIRS.rows(book) {
         if row[0] == right {
+            // By `next`, as in `totals`.
             let next = totals::plus(sums, side_mw(row, side));
             sums = next;
         }

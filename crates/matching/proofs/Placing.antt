@@ -21,7 +21,8 @@ use Rattle.cells.specs.Updates.{with_matched, with_clock}
 use Rattle.stores.proofs.Stores.{matched_set, clock_set}
 use Rattle.answers.specs.Promises.{Answers}
 use Rattle.answers.proofs.Laws.{granted}
-use Rattle.matching.specs.Work.{Placed}
+use Rattle.matching.specs.Work.{match_of, Placed}
+use Rattle.matching.specs.declared.MatchCall.{MatchCall}
 use Rattle.matching.proofs.Tests.{KnownMatch, known_match}
 
 pub match_there : (b : List ℕ) (t d s : ℕ) → number (book_of b) (Match t d s) ≡ 0 → KnownMatch d s
@@ -32,12 +33,15 @@ effect_is : (b : Book) (t d s : ℕ) → with_clock (with_matched b (set b.match
 unfolding effect is_timed clock_after directions_after profiles_after parties_after offered_after granted_after rights_after pairs_after matched_after
 effect_is b t d s = rw (or-true b.started)
 
-pub match_answers : (b b' : List ℕ) (t d s n : ℕ) → number (book_of b) (Match t d s) ≡ 0 → Placed b t d s n b' → Answers b (Match t d s) (Ok n) b'
+pub match_answers : (b b' : List ℕ) (call : MatchCall) (n : ℕ) → number (book_of b) (match_of call) ≡ 0 → Placed b call n b' → Answers b (match_of call) (Ok n) b'
 unfolding detail
-match_answers b b' t d s n g p =
+match_answers b b' call n g p =
+    let t : ℕ = call.time in
+    let d : ℕ = call.direction in
+    let s : ℕ = call.session.0 in
     let u = p.cells.count in
     let k = match_there b t d s g in
-    granted b b' (Match t d s) n g p.count_is
+    granted b b' (match_of call) n g p.count_is
     (ap book_of p.cells_are
     ∙ clock_set (set b (MATCHED + flag d s) 1) t (length-set b (MATCHED + flag d s) 1 ∙ u)
     ∙ ap (λ (x : Book). with_clock x t) (matched_set b (flag d s) 1 (omega arith) u)

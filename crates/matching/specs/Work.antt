@@ -18,7 +18,7 @@ unfoldable pub is_of : ℕ → ℕ → Right → Bool
 is_of d s x = x.direction == d && x.session == s
 
 -- the flag of the session is set, and the clock; the count of the session's rights
-pub record Placed (b : List ℕ) (time d s count : ℕ) (b' : List ℕ) : Type 0 where
+pub record Placed (b : List ℕ) (call : MatchCall) (count : ℕ) (b' : List ℕ) : Type 0 where
   pub cells : Cells b
-  pub count_is : count ≡ count_rights d s (book_of b).rights
-  pub cells_are : b' ≡ clocked time (set b (MATCHED + flag d s) 1)
+  pub count_is : count ≡ count_rights call.direction call.session.0 (book_of b).rights
+  pub cells_are : b' ≡ clocked call.time (set b (MATCHED + flag call.direction call.session.0) 1)

@@ -38,9 +38,7 @@ fn match_verdict(book: &Book, call: MatchCall) -> Result<(), Refusal>
     if answers::before_clock(book, call.time) {
         return Err(Refusal::Clock);
     }
-    let Some(known) = answers::session_in(book, call.direction, call.session) else {
-        return Err(Refusal::Unknown);
-    };
+    let known = answers::session_in(book, call.direction, call.session).ok_or(Refusal::Unknown)?;
     answers::window_verdict(windows::matching_timing(known, call.time))?;
     if tables::is_matched(book, call.direction, call.session) {
         return Err(Refusal::Cycle);
@@ -50,6 +48,7 @@ fn match_verdict(book: &Book, call: MatchCall) -> Result<(), Refusal>
 
 // ---- the count of rights
 
+// Two fields of three, so no derived equality.
 #[tactic(auto, unfolding(crate::specs::Work::is_of))]
 fn is_right_of_session(row: &[u32; 8], direction: u8, session: Session) -> bool
     ensures { result ≡ is_of direction session.0 (right_read row.now) }
@@ -75,9 +74,8 @@ fn count_rights(book: &Book, direction: u8, session: Session) -> u32
 // The stores: the count of the session's rights.
 fn place_match(book: &mut Book, call: MatchCall) -> u32
     requires { number (book_of book.old) (match_of call) ≡ 0 }
-    ensures { Placed book.old call.time call.direction call.session.0 result book.new }
+    ensures { Placed book.old call result book.new }
 {
-    cells::cells_in(book);
     let count = count_rights(book, call.direction, call.session);
     stores::set_matched(book, call.direction, call.session);
     stores::set_clock(book, call.time);

@@ -1,10 +1,9 @@
 // What a nomination names in the book, and the tests of it.
 #![tactic(auto)]
 
-ghost use Rattle.std.specs.Prelude.{◌≡◌, ◌||◌, not, if◌then◌else◌, drop, nat_lt, ◌==◌};
+ghost use Rattle.std.specs.Prelude.{◌≡◌, ◌||◌, not, if◌then◌else◌, drop, ◌==◌};
 ghost use Rattle.rules.specs.Basics.{bit, any_above};
 ghost use Rattle.rules.specs.Sessions.{hours_in};
-ghost use Rattle.rules.specs.Windows.{latest};
 ghost use Rattle.rules.specs.Book.{direction};
 ghost use Rattle.rules.specs.Sides.{side_number};
 ghost use Rattle.cells.specs.View.{book_of};
@@ -38,7 +37,7 @@ pub struct Named {
     pub session: DaySession,
 }
 
-// The direction of a right may be none that is there: it is then read as zeros.
+// The direction of a right may be none that is there: it is then zeros, as the rules read it.
 fn direction_of(book: &Book, right: RightRead) -> Direction
     ensures { direction_of result ≡ direction (book_of book.now).directions right.direction }
 {
@@ -70,13 +69,6 @@ pub fn named_in(book: &Book, call: NominationCall) -> Option<Named>
 }
 
 // ---- tests
-
-// The time or a MW is out of range.
-pub fn nomination_field(time: u32, mw: [u16; 5]) -> bool
-    ensures { result ≡ (nat_lt latest time || any_above 9999 mw) }
-{
-    time > rules::LATEST || capacity::any_above(rules::MOST_MW, mw, 0)
-}
 
 impl Named {
     // MW for an hour that the right's session lacks.

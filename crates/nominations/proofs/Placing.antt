@@ -1,8 +1,8 @@
 -- A nomination's pair: 13 is that of the rules, and the stores of a nomination that nothing refuses leave the book of the rules, and its marks.
 -- Assumes nothing.
-use Rattle.std.proofs.Common.{◌≡◌, ℕ, ◌+◌, ◌*◌, ◌≤◌, Bool, ◌&&◌, leb, Option, List, length, Ok, refl, sym, ap, ◌∙◌, arith}
+use Rattle.std.proofs.Common.{◌≡◌, ℕ, ◌+◌, ◌*◌, ◌≤◌, Bool, List, length, Ok, refl, sym, ap, ◌∙◌, arith}
 use lib.Seq.{sets, length-sets}
-use Rattle.rules.specs.Book.{Book, Pair, right, pair_limit}
+use Rattle.rules.specs.Book.{Book, Pair, right}
 use Rattle.rules.specs.Nominations.{out_of, into_of, with_pair}
 use Rattle.rules.specs.Refusals.{refuses, full, number}
 use Rattle.rules.specs.Effects.{is_timed, clock_after, directions_after, profiles_after, parties_after, offered_after, granted_after, rights_after, pairs_after, matched_after, effect}
@@ -19,32 +19,29 @@ use Rattle.stores.proofs.Stores.{clock_set}
 use Rattle.stores.proofs.Pairs.{side_replaced}
 use Rattle.marks.specs.Totals.{marks_of}
 use Rattle.marks.proofs.Sums.{marks_are}
-use Rattle.pairs.specs.Search.{standing_pair}
-use Rattle.pairs.specs.Work.{is_missing, PairThere}
-use Rattle.pairs.proofs.Pairs.{full_is as found_full}
+use Rattle.pairs.specs.Work.{PairThere}
+use Rattle.pairs.proofs.Pairs.{IsFull}
 use Rattle.answers.specs.Promises.{Answers}
 use Rattle.answers.proofs.Laws.{granted}
 use Rattle.nomination_tests.specs.declared.NominationCall.{NominationCall}
 use Rattle.nomination_tests.specs.Named.{nominate_of}
 use Rattle.nominations.specs.declared.Entry.{Entry}
-use Rattle.nominations.specs.Work.{Cleared, Placed}
+use Rattle.nominations.specs.Work.{key_of, Cleared, Placed}
 
 side_there : (s : Side) → side_number s ≤ 1
 side_there Out = omega arith
 side_there In = omega arith
 
--- ---- 13: the test of what the search found is that of the rules
+-- ---- 13: the entry of the pair is that of the rules
 
-pub full_is : (b : List ℕ) (c : NominationCall) (s : Side) → side_number s ≡ c.side → (f : Option ℕ) {t : Bool} → f ≡ standing_pair b c.right (out_of c.sender c.other (side_number s)) (into_of c.sender c.other (side_number s))
-    → (leb pair_limit (length (book_of b).pairs) && is_missing f) ≡ t → refuses (book_of b) (nominate_of c) 13 ≡ t
+pub full_is : (b : List ℕ) (c : NominationCall) (s : Side) → side_number s ≡ c.side → {t : Bool} → IsFull (book_of b) (key_of c s) ≡ t → refuses (book_of b) (nominate_of c) 13 ≡ t
 unfolding refuses full
-full_is b c s side f e h = rw (← side) (found_full b c.right (out_of c.sender c.other (side_number s)) (into_of c.sender c.other (side_number s)) e h)
+full_is b c s side h = rw (← side) h
 
 -- ---- all stores together
 
-module _ (b : List ℕ) (c : NominationCall) (e : Entry) (ok : Cleared b c e) (size : length c.mw ≡ 5) (out into k : ℕ) (b1 b2 b3 : List ℕ)
-    (po : out ≡ out_of c.sender c.other (side_number e.side)) (pi : into ≡ into_of c.sender c.other (side_number e.side)) (s : PairThere b c.right out into k b1)
-    (e2 : b2 ≡ sets b1 (PAIRS + 4 + k * 13 + 5 * side_number e.side) c.mw) (e3 : b3 ≡ clocked c.time b2) where
+module _ (b : List ℕ) (c : NominationCall) (e : Entry) (ok : Cleared b c e) (size : length c.mw ≡ 5) (k : ℕ) (b1 b2 b3 : List ℕ)
+    (s : PairThere b (key_of c e.side) k b1) (e2 : b2 ≡ sets b1 (PAIRS + 4 + k * 13 + 5 * side_number e.side) c.mw) (e3 : b3 ≡ clocked c.time b2) where
   abbrev after : List Pair
   after = with_pair c.right (out_of c.sender c.other c.side) (into_of c.sender c.other c.side) c.side c.mw (book_of b).pairs
 
@@ -53,7 +50,7 @@ module _ (b : List ℕ) (c : NominationCall) (e : Entry) (ok : Cleared b c e) (s
       let row = s.row in
       ap book_of e2
       ∙ side_replaced b1 k (side_number e.side) c.mw (omega arith) (side_there e.side) s.count size row
-      ∙ ap (λ (x : List Pair). with_pairs (book_of b1) x) (s.pair (side_number e.side) c.mw ∙ rw (po, pi, ok.side_is) refl)
+      ∙ ap (λ (x : List Pair). with_pairs (book_of b1) x) (s.pair (side_number e.side) c.mw ∙ rw ok.side_is refl)
       ∙ ap (λ (x : Book). with_pairs x after) s.rest
 
   all_book : book_of b3 ≡ with_clock (with_pairs (book_of b) after) c.time

@@ -2,11 +2,9 @@
 #![tactic(auto)]
 
 ghost use Rattle.std.specs.Prelude.{◌≡◌};
-ghost use Rattle.rules.specs.Nominations.{out_of, into_of};
-ghost use Rattle.rules.specs.Sides.{side_number};
 ghost use Rattle.answers.specs.Promises.{Answers};
 ghost use Rattle.nomination_tests.specs.Named.{nominate_of};
-ghost use Rattle.nominations.specs.Work.{Cleared, JudgedNomination, Placed};
+ghost use Rattle.nominations.specs.Work.{key_of, Cleared, JudgedNomination, Placed};
 
 use cells::Book;
 use nomination_tests::NominationCall;
@@ -23,9 +21,7 @@ struct Entry {
 
 // The pair of a nomination: its sender is the party of its side.
 fn key_of(call: NominationCall, side: Side) -> PairKey
-    ensures right { result.right ≡ call.right }
-    ensures out { result.out ≡ out_of call.sender call.other (side_number side) }
-    ensures into { result.into ≡ into_of call.sender call.other (side_number side) }
+    ensures { result ≡ key_of call side }
 {
     let (out, into) = match side {
         Side::Out => (call.sender, call.other),
@@ -45,15 +41,13 @@ fn nomination_verdict(book: &Book, call: NominationCall) -> Result<Entry, Refusa
     ensures { JudgedNomination book.now call result }
 {
     let side = Side::try_from(call.side)?;
-    if nomination_tests::nomination_field(call.time, call.mw) {
+    if capacity::out_of_range(call.time, call.mw) {
         return Err(Refusal::Field);
     }
     if answers::before_clock(book, call.time) {
         return Err(Refusal::Clock);
     }
-    let Some(named) = nomination_tests::named_in(book, call) else {
-        return Err(Refusal::Unknown);
-    };
+    let named = nomination_tests::named_in(book, call).ok_or(Refusal::Unknown)?;
     answers::window_verdict(windows::nomination_timing(named.session, call.time))?;
     if named.lacking_hours(call.mw) {
         return Err(Refusal::Hours);
@@ -64,10 +58,7 @@ fn nomination_verdict(book: &Book, call: NominationCall) -> Result<Entry, Refusa
     if named.not_owner(call.sender, call.other) {
         return Err(Refusal::Owner);
     }
-    let pair = pairs::standing_pair(book, key_of(call, side));
-    if pairs::pairs_full(book, pair) {
-        return Err(Refusal::Full);
-    }
+    let pair = pairs::entry_of(book, key_of(call, side))?;
     let held = named.right.mw;
     Ok(Entry { side, held, pair })
 }

@@ -1,7 +1,6 @@
 -- The number of an offer's reply, test by test, and what the stores of a granted one leave.
 -- Assumes nothing.
-use Rattle.std.specs.Prelude.{Option, Some, None, Ok, Err}
-use Rattle.std.specs.Option.{ok_or}
+use Rattle.std.specs.Prelude.{Ok}
 use Prim.Native.Nat.{ℕ, ◌+◌, ◌-◌}
 use lib.Dec.{ltb}
 use mathlib.Core.Bool.{true, false, ◌||◌}
@@ -12,10 +11,9 @@ use lib.ListN.{length-set, get_or, set}
 use Rattle.rules.specs.Book.{Book, place}
 use Rattle.rules.specs.Calls.{Call}
 use Rattle.rules.specs.Windows.{latest, offer_timing}
-use Rattle.rules.specs.Refusals.{order, first_of, setup_shut, field, clock, unknown, hour_unknown, timing_of, taken, wrong_hours, no_access, not_owner, cycle, full, shortage_of, refuses, number}
+use Rattle.rules.specs.Refusals.{order, first_of, setup_shut, field, clock, unknown, hour_unknown, timing_of, taken, wrong_hours, no_access, not_owner, cycle, full, shortage_of, refuses}
 use Rattle.rules.specs.Effects.{is_timed, clock_after, directions_after, profiles_after, parties_after, offered_after, granted_after, rights_after, pairs_after, matched_after, effect}
 use Rattle.rules.specs.Details.{detail, refusal}
-use Rattle.rules.specs.declared.Refusal.{Refusal}
 use Rattle.rules.specs.declared.Refusal.TheVariants.{Field, Clock, Unknown}
 use Rattle.rules.proofs.Bools.{or-true}
 use Rattle.cells.specs.Layout.{OFFERED}
@@ -28,7 +26,9 @@ use Rattle.answers.specs.Capacities.{capacity_unknown, row_of, offered_model, of
 use Rattle.answers.specs.declared.Capacity.{Capacity}
 use Rattle.answers.specs.declared.Capacity.TheVariants.{Direction, Profile}
 use Rattle.answers.proofs.Laws.{Left, pass, refuse, granted}
-use Rattle.offers.specs.Work.{Placed}
+use Rattle.cells.specs.declared.Place.{Place}
+use Rattle.offers.specs.declared.OfferCall.{OfferCall}
+use Rattle.offers.specs.Work.{offer_call, Clear, Placed}
 
 -- ---- the tests, one after the other, as the rules make them
 
@@ -81,34 +81,27 @@ module _ (b : Book) (x : Capacity) (t h mw : ℕ) where
       pub known : (capacity_unknown b x || hour_unknown b h) ≡ false → Left b (offer_of x t h mw) (16 ∷ 8 ∷ [])
       known e = pass past_clock (unknown_is b x t h mw ∙ e)
 
--- ---- what a search that is refused otherwise found
-
-pub found_or : {A : Type 0} (r : Option A) (e : Refusal) (x : A) → Ok x ≡ ok_or r e → r ≡ Some x
-found_or None e x q = cc
-found_or (Some y) e x q = cc
-
-pub none_or : {A : Type 0} (r : Option A) (e x : Refusal) → Err x ≡ ok_or r e → (r ≡ None) × (x ≡ e)
-none_or None e x q = (refl, cc)
-none_or (Some y) e x q = (cc, cc)
-
 -- ---- its effect: the offer of row l in hour h is mw, and the clock is t
 
 pub record Offers (c : Call) (t l h mw : ℕ) : Type 0 where
   pub effect_is : (b : Book) → with_clock (with_offered b (set b.offered (place l h) mw)) t ≡ effect b c
   pub detail_is : (b : Book) → mw - get_or b.granted (place l h) 0 ≡ detail b c
 
-pub offers : (x : Capacity) (t h mw : ℕ) → Offers (offer_of x t h mw) t (row_of x) h mw
+offers : (x : Capacity) (t h mw : ℕ) → Offers (offer_of x t h mw) t (row_of x) h mw
 unfolding effect is_timed clock_after directions_after profiles_after parties_after offered_after granted_after rights_after pairs_after matched_after detail
 offers (Direction d) t h mw = record { effect_is = λ b. rw (or-true b.started); detail_is = λ b. refl }
 offers (Profile p) t h mw = record { effect_is = λ b. rw (or-true b.started); detail_is = λ b. refl }
 
-pub offer_answers : {c : Call} {t l h mw left : ℕ} (b b' : List ℕ) → Offers c t l h mw → InHour l h → number (book_of b) c ≡ 0 → Placed b t l h mw left b'
-    → Answers b c (Ok left) b'
-offer_answers {c} {t} {l} {h} {mw} {left} b b' o s g p =
+pub offer_answers : {left : ℕ} (b b' : List ℕ) (call : OfferCall) (at : Place) → InHour at.row at.hour.0 → Clear (book_of b) call at → Placed b call at left b'
+    → Answers b (offer_call call) (Ok left) b'
+offer_answers {left} b b' call at s clear p =
     let u = p.cells.count in
-    granted b b' c left g
-    (p.left_is ∙ ap (λ (x : ℕ). mw - x) (sym (granted_place b l h s)) ∙ o.detail_is (book_of b))
+    let l : ℕ = at.row in
+    let h : ℕ = at.hour.0 in
+    let o : Offers (offer_call call) call.time l h call.mw = rw (clear.row, clear.hour) (offers call.capacity call.time call.hour.0 call.mw) in
+    granted b b' (offer_call call) left clear.clear
+    (p.left_is ∙ ap (λ (x : ℕ). call.mw - x) (sym (granted_place b l h s)) ∙ o.detail_is (book_of b))
     (ap book_of p.cells_are
-    ∙ clock_set (set b (OFFERED + place l h) mw) t (length-set b (OFFERED + place l h) mw ∙ u)
-    ∙ ap (λ (x : Book). with_clock x t) (offered_set b (place l h) mw (omega arith) u)
+    ∙ clock_set (set b (OFFERED + place l h) call.mw) call.time (length-set b (OFFERED + place l h) call.mw ∙ u)
+    ∙ ap (λ (x : Book). with_clock x call.time) (offered_set b (place l h) call.mw (omega arith) u)
     ∙ o.effect_is (book_of b))

@@ -35,7 +35,7 @@ JudgedOffer b call (Ok at) = Clear b call at
 JudgedOffer b call (Err r) = Refused b (offer_call call) r
 
 -- the offer of a row in an hour is stored, and the clock; what is then left
-pub record Placed (b : List ℕ) (time row hour mw left : ℕ) (b' : List ℕ) : Type 0 where
+pub record Placed (b : List ℕ) (call : OfferCall) (at : Place) (left : ℕ) (b' : List ℕ) : Type 0 where
   pub cells : Cells b
-  pub left_is : left ≡ mw - cell b (GRANTED + place row hour)
-  pub cells_are : b' ≡ clocked time (set b (OFFERED + place row hour) mw)
+  pub left_is : left ≡ call.mw - cell b (GRANTED + place at.row at.hour.0)
+  pub cells_are : b' ≡ clocked call.time (set b (OFFERED + place at.row at.hour.0) call.mw)

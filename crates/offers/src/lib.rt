@@ -59,19 +59,18 @@ fn offer_verdict(book: &Book, call: OfferCall) -> Result<Place, Refusal>
 // ---- the call
 
 // Stores the MW of a place, which may be fewer than are granted there, and answers what is then left.
-fn place_offer(book: &mut Book, time: u32, at: Place, mw: u16) -> u32
-    ensures { Placed book.old time at.row at.hour.0 mw result book.new }
+fn place_offer(book: &mut Book, call: OfferCall, at: Place) -> u32
+    ensures { Placed book.old call at result book.new }
 {
-    cells::cells_in(book);
     let granted = tables::granted_at(book, at);
-    stores::set_offered(book, at, mw);
-    stores::set_clock(book, time);
-    (mw as u32).saturating_sub(granted)
+    stores::set_offered(book, at, call.mw);
+    stores::set_clock(book, call.time);
+    (call.mw as u32).saturating_sub(granted)
 }
 
 pub fn offer(book: &mut Book, call: OfferCall) -> Answer
     ensures { Answers book.old (offer_call call) result book.new }
 {
     let place = offer_verdict(book, call)?;
-    Ok(place_offer(book, call.time, place, call.mw))
+    Ok(place_offer(book, call, place))
 }

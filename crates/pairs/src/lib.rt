@@ -1,17 +1,17 @@
 // The table of pairs: the search for a pair, new pairs, and the MW of a side.
 #![tactic(auto)]
 
-ghost use Rattle.std.specs.Prelude.{◌≡◌, ◌&&◌, ◌+◌, ◌*◌, ◌<◌, ◌≤◌, nat_le, length};
+ghost use Rattle.std.specs.Prelude.{◌≡◌, ◌+◌, ◌*◌, ◌<◌, ◌≤◌};
 ghost use Rattle.std.proofs.lemmas.List.Edits.{sets};
 ghost use Rattle.rules.specs.Book.{pair_limit};
 ghost use Rattle.rules.specs.Sides.{side_number};
 ghost use Rattle.cells.specs.Layout.{CELLS, PAIRS};
-ghost use Rattle.cells.specs.View.{book_of, counted, pair_read};
+ghost use Rattle.cells.specs.View.{counted, pair_read};
 ghost use Rattle.pairs.specs.Search.{standing_pair};
-ghost use Rattle.pairs.specs.Work.{is_missing, Enters, NewPair, PairThere};
+ghost use Rattle.pairs.specs.Work.{entry_in, Enters, NewPair, PairThere};
 
 use cells::Book;
-use rules::Side;
+use rules::{Refusal, Side};
 
 // What tells a pair from others: its right, out party and in party.
 #[derive(Clone, Copy, PartialEq, Eq)]
@@ -22,7 +22,7 @@ pub struct PairKey {
 }
 
 impl PairKey {
-    // By the cells of a pair's row.
+    // By the first cells of a pair's row. Not `From`, since the row has more than the key.
     fn of_row(row: &[u32; 13]) -> Self
         ensures right { result.right ≡ (pair_read row.now).right }
         ensures out { result.out ≡ (pair_read row.now).out }
@@ -38,23 +38,25 @@ impl PairKey {
 
 // ---- the search
 
-// The first pair with the key.
+// The first pair with the key. Beside `rights::standing`: one search would need a trait for the keys, with its laws, to save two lines.
 pub fn standing_pair(book: &Book, key: PairKey) -> Option<u32>
-    ensures { result ≡ standing_pair book.now key.right key.out key.into }
+    ensures { result ≡ standing_pair book.now key }
 {
     let rows = cells::PAIRS.rows(book);
     let number = rows.iter().position(|row| PairKey::of_row(row) == key)?;
     Some(number as u32)
 }
 
-// A new pair is needed, and the table is full.
-pub fn pairs_full(book: &Book, found: Option<u32>) -> bool
-    ensures { result ≡ (nat_le pair_limit (length (book_of book.now).pairs) && is_missing found) }
+// What a nomination finds in the table: `Ok(Some)` with its pair, `Ok(None)` where there is room for a new one, and `Err` where there is neither.
+#[tactic(auto, unfolding(crate::specs::Work::entry_in))]
+pub fn entry_of(book: &Book, key: PairKey) -> Result<Option<u32>, Refusal>
+    ensures { result ≡ entry_in book.now key }
 {
-    let None = found else {
-        return false;
-    };
-    cells::PAIRS.is_full(book)
+    let found = standing_pair(book, key);
+    if found.is_none() && cells::PAIRS.is_full(book) {
+        return Err(Refusal::Full);
+    }
+    Ok(found)
 }
 
 // ---- the pair of a granted nomination
@@ -62,19 +64,17 @@ pub fn pairs_full(book: &Book, found: Option<u32>) -> bool
 // A new pair with no MW: its number. No value carries that the table has room: it is a fact of the cells as they are before the store.
 fn open_pair(book: &mut Book, key: PairKey) -> u32
     requires { counted book.old PAIRS pair_limit < pair_limit }
-    ensures { NewPair book.old key.right key.out key.into result book.new }
+    ensures { NewPair book.old key result book.new }
 {
-    cells::cells_in(book);
     let row = [key.right, key.out, key.into, 0, 0, 0, 0, 0, 0, 0, 0, 0, 0];
     stores::add_row(book, &cells::PAIRS, &row)
 }
 
 // The number of the pair that the verdict found, or of a new one.
 pub fn take_pair(book: &mut Book, key: PairKey, found: Option<u32>) -> u32
-    requires { Enters book.old key.right key.out key.into found }
-    ensures { PairThere book.old key.right key.out key.into result book.new }
+    requires { Enters book.old key found }
+    ensures { PairThere book.old key result book.new }
 {
-    cells::cells_in(book);
     let Some(number) = found else {
         return open_pair(book, key);
     };

@@ -12,15 +12,35 @@ ghost use Rattle.parties.specs.Work.{same_code};
 use cells::Book;
 use rules::{Answer, Refusal};
 
-fn party_field(code: [u8; 16], access: u8) -> bool
-    ensures { result ≡ (access == 0 || nat_lt 127 access || not (is_code code)) }
-{
-    if access == 0 || access > 127 {
-        return true;
-    }
-    !eic::is_party_code(code)
+// A party: its code, and the map of its access, bit o for operator o.
+#[derive(Clone, Copy)]
+pub struct Party {
+    pub code: [u8; 16],
+    pub access: u8,
 }
 
+impl Party {
+    // Its cells: the code and the access map.
+    fn row(self) -> [u32; 17]
+        ensures { result ≡ self.code ++ (self.access ∷ []) }
+    {
+        let mut row = [0u32; 17];
+        row[..16].copy_from_slice(&self.code.map(|byte| byte as u32));
+        row[16] = self.access as u32;
+        row
+    }
+}
+
+fn party_field(party: Party) -> bool
+    ensures { result ≡ (party.access == 0 || nat_lt 127 party.access || not (is_code party.code)) }
+{
+    if party.access == 0 || party.access > 127 {
+        return true;
+    }
+    !eic::is_party_code(party.code)
+}
+
+// Cells are wider than the bytes of a code, so no `==` of the two.
 fn same_code(row: &[u32; 17], code: [u8; 16]) -> bool
     ensures { result ≡ same_code code (party_read row.now) }
 {
@@ -36,16 +56,16 @@ fn code_taken(book: &Book, code: [u8; 16]) -> bool
     rows.iter().any(|row| same_code(row, code))
 }
 
-fn party_verdict(book: &Book, code: [u8; 16], access: u8) -> Result<(), Refusal>
-    ensures { Judged (book_of book.now) (AddParty code access) result }
+fn party_verdict(book: &Book, party: Party) -> Result<(), Refusal>
+    ensures { Judged (book_of book.now) (AddParty party.code party.access) result }
 {
-    if party_field(code, access) {
+    if party_field(party) {
         return Err(Refusal::Field);
     }
     if setup::setup_shut(book) {
         return Err(Refusal::SetupShut);
     }
-    if code_taken(book, code) {
+    if code_taken(book, party.code) {
         return Err(Refusal::Taken);
     }
     if cells::PARTIES.is_full(book) {
@@ -54,21 +74,9 @@ fn party_verdict(book: &Book, code: [u8; 16], access: u8) -> Result<(), Refusal>
     Ok(())
 }
 
-// The cells of a party: its code and its access map.
-fn party_row(code: [u8; 16], access: u8) -> [u32; 17]
-    ensures { result ≡ code ++ (access ∷ []) }
+pub fn add_party(book: &mut Book, party: Party) -> Answer
+    ensures { Answers book.old (AddParty party.code party.access) result book.new }
 {
-    let mut row = [0u32; 17];
-    row[..16].copy_from_slice(&code.map(|byte| byte as u32));
-    row[16] = access as u32;
-    row
-}
-
-pub fn add_party(book: &mut Book, code: [u8; 16], access: u8) -> Answer
-    ensures { Answers book.old (AddParty code access) result book.new }
-{
-    party_verdict(book, code, access)?;
-    cells::cells_in(book);
-    let row = party_row(code, access);
-    Ok(stores::add_row(book, &cells::PARTIES, &row))
+    party_verdict(book, party)?;
+    Ok(stores::add_row(book, &cells::PARTIES, &party.row()))
 }

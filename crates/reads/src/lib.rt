@@ -25,9 +25,7 @@ fn left_read(book: &Book, at: Place) -> LeftRead
 pub fn left_of(book: &Book, capacity: Capacity, hour: Hour) -> Result<LeftRead, Refusal>
     ensures { ReadsLeft book.now capacity hour.0 result }
 {
-    let Some(place) = answers::place_in(book, capacity, hour) else {
-        return Err(Refusal::Unknown);
-    };
+    let place = answers::place_in(book, capacity, hour).ok_or(Refusal::Unknown)?;
     Ok(left_read(book, place))
 }
 

@@ -124,6 +124,7 @@ fn put_number(bytes: &mut [u8], number: u32)
 }
 
 // The fields of a record, past the map.
+// By position: a loop that splits off each field by `split_at_mut` and goes on with the rest was tried, and its proof didn't close.
 #[tactic(auto, using(crate::proofs::Turns::length_next, crate::proofs::Turns::sets_next, crate::proofs::Turns::body_done, crate::proofs::Turns::part_put))]
 fn put_fields(buffer: &mut [u8], fields: Fields)
     requires { 2 + length (body (kind_at (get_or fields.0 0 0)) 0 widths fields.0) ≤ length buffer.old }

@@ -16,11 +16,9 @@ fn reply(book: &mut Book, request: &Request) -> Reply {
     match request.kind {
         Kind::Open => {
             let answer = rehearse_calls::open(book, given);
-            Reply::Opening(answer, cells::day(book))
+            Reply::Opening(answer.map(|detail| (detail, cells::day(book))))
         }
-        Kind::Call(kind) => {
-            Reply::Call(kind, rehearse_calls::call(book, kind, given, request.code))
-        }
+        Kind::Call(kind) => Reply::Call(kind, rehearse_calls::call(book, kind, given)),
         Kind::Read(kind) => rehearse_reads::read(book, kind, given),
     }
 }

@@ -3,7 +3,8 @@
 use Rattle.std.specs.Prelude.{ℕ, ◌+◌, List, [], ◌∷◌}
 use Rattle.rules.specs.Calls.{Call, AddDirection, AddProfile, AddParty, OfferDirection, OfferProfile, Bid, Nominate, Match}
 use Rattle.rehearse_lines.specs.declared.kinds.CallKind.{CallKind}
-use Rattle.rehearse_lines.specs.declared.kinds.CallKind.TheVariants.{Direction, Profile, Party, Offer, OfferOfProfile, Bid as BidLine, Nominate as NominateLine, Match as MatchLine}
+use Rattle.rehearse_lines.specs.declared.kinds.CallKind.TheVariants.{Direction, Profile, Party, Offer, Bid as BidLine, Nominate as NominateLine, Match as MatchLine}
+use Rattle.rehearse_lines.specs.declared.kinds.CapacityKind.TheVariants.{Direction as OfDirection, Profile as OfProfile}
 use Rattle.rehearse_numbers.specs.Fields.{byte_at, two_at, four_at}
 
 -- the MW of a session's five hours
@@ -35,12 +36,12 @@ abbrev pub match_of : List ℕ → Call
 match_of given = Match (four_at given 0) (byte_at given 1) (byte_at given 2)
 
 -- by the kind of the line
-abbrev pub line_call : CallKind → List ℕ → List ℕ → Call
-line_call Direction given code = direction_of given
-line_call Profile given code = AddProfile (four_at given 0)
-line_call Party given code = AddParty code (byte_at given 0)
-line_call Offer given code = offer_of given
-line_call OfferOfProfile given code = profile_offer_of given
-line_call BidLine given code = bid_of given
-line_call NominateLine given code = nominate_of given
-line_call MatchLine given code = match_of given
+abbrev pub line_call : CallKind → List ℕ → Call
+line_call Direction given = direction_of given
+line_call Profile given = AddProfile (four_at given 0)
+line_call (Party code) given = AddParty code (byte_at given 0)
+line_call (Offer OfDirection) given = offer_of given
+line_call (Offer OfProfile) given = profile_offer_of given
+line_call BidLine given = bid_of given
+line_call NominateLine given = nominate_of given
+line_call MatchLine given = match_of given

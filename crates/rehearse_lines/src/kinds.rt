@@ -13,9 +13,9 @@ pub enum Kind {
 pub enum CallKind {
     Direction,
     Profile,
-    Party,
-    Offer,
-    OfferOfProfile,
+    // With its code.
+    Party([u8; 16]),
+    Offer(CapacityKind),
     Bid,
     Nominate,
     Match,
@@ -23,21 +23,27 @@ pub enum CallKind {
 
 #[derive(Clone, Copy, PartialEq, Eq)]
 pub enum ReadKind {
-    Left,
-    LeftOfProfile,
+    Left(CapacityKind),
     Right,
     Confirmed,
+}
+
+// What the number of an offer is of, and that of a read of what is left, as the line says in a word. The number comes with the others.
+#[derive(Clone, Copy, PartialEq, Eq)]
+pub enum CapacityKind {
+    Direction,
+    Profile,
 }
 
 impl Kind {
     // The same of a profile, where a line names a direction or a profile.
     pub fn of_profile(self) -> Kind
-        ensures offer { self ≡ Kind.Call CallKind.Offer → result ≡ Kind.Call CallKind.OfferOfProfile }
-        ensures left { self ≡ Kind.Read ReadKind.Left → result ≡ Kind.Read ReadKind.LeftOfProfile }
+        ensures offer { (of : CapacityKind) → self ≡ Kind.Call (CallKind.Offer of) → result ≡ Kind.Call (CallKind.Offer CapacityKind.Profile) }
+        ensures left { (of : CapacityKind) → self ≡ Kind.Read (ReadKind.Left of) → result ≡ Kind.Read (ReadKind.Left CapacityKind.Profile) }
     {
         match self {
-            Kind::Call(CallKind::Offer) => Kind::Call(CallKind::OfferOfProfile),
-            Kind::Read(ReadKind::Left) => Kind::Read(ReadKind::LeftOfProfile),
+            Kind::Call(CallKind::Offer(_)) => Kind::Call(CallKind::Offer(CapacityKind::Profile)),
+            Kind::Read(ReadKind::Left(_)) => Kind::Read(ReadKind::Left(CapacityKind::Profile)),
             other => other,
         }
     }

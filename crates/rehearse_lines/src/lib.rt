@@ -8,7 +8,7 @@ mod unfit;
 
 ghost use Rattle.std.specs.Prelude.{◌≡◌, ◌<◌, false, Err, IfOk, IfSome, length};
 
-pub use kinds::{CallKind, Kind, ReadKind};
+pub use kinds::{CallKind, CapacityKind, Kind, ReadKind};
 pub use marks::Mark;
 use rehearse_text::{LONGEST, past_all, past_word};
 pub use request::Request;
@@ -21,14 +21,12 @@ fn is_passed_on(line: &[u8]) -> bool {
 
 // By its first word.
 fn matched(line: &[u8]) -> Result<Request, Unfit<'_>> {
-    for (kind, pattern) in marks::PATTERNS {
-        if let Some((first, marks)) = pattern.split_once(' ')
-            && let Some(rest) = past_word(line, first.as_bytes())
-        {
-            return request::matched(kind, marks, rest);
-        }
-    }
-    Err(Unfit::Expects(Wanted::FirstWord))
+    let found = marks::PATTERNS.iter().find_map(|(kind, pattern)| {
+        let (first, marks) = pattern.split_once(' ')?;
+        let rest = past_word(line, first.as_bytes())?;
+        Some(request::matched(*kind, marks, rest))
+    });
+    found.unwrap_or(Err(Unfit::Expects(Wanted::FirstWord)))
 }
 
 // What a line asks for; nothing where it is passed on. `opened` says whether a day was opened before it.

@@ -1,20 +1,24 @@
 // The patterns of the lines, and what a mark of a pattern stands for.
 use crate::kinds::CallKind::{Bid, Direction, Match, Nominate, Offer, Party, Profile};
-use crate::kinds::Kind;
 use crate::kinds::Kind::{Call, Open, Read};
 use crate::kinds::ReadKind::{Confirmed, Left, Right};
+use crate::kinds::{CapacityKind, Kind};
 use rehearse_numbers::Width;
 use std::fmt;
 
 // 1, 2 and 4 stand for a number of so many bytes, ? for MW that may be left out, * for any count of directions, @ for a party code and / for the word
 // direction or profile. A comma and a hyphen stand for themselves, a colon for itself or for no MW at all.
-// Strings and no rows of marks: they read as the lines that they match.
+// The patterns are strings, so that they read as the lines that they match. A party's code and the word profile come into the kind with their marks, in place of
+// the zeros and of the direction that it begins with: kinds without them, for the patterns alone, would name every kind again.
 pub const PATTERNS: [(Kind, &str); 11] = [
     (Open, "open 2 - 1 - 1"),
     (Call(Direction), "direction 1 to 1 , model 1"),
     (Call(Profile), "profile of directions *"),
-    (Call(Party), "party @ , access 1"),
-    (Call(Offer), "offer at 4 , / 1 , hour 1 : 2"),
+    (Call(Party([0; 16])), "party @ , access 1"),
+    (
+        Call(Offer(CapacityKind::Direction)),
+        "offer at 4 , / 1 , hour 1 : 2",
+    ),
     (
         Call(Bid),
         "bid at 4 , party 1 , direction 1 , session 1 : ? ? ? ? ?",
@@ -24,7 +28,7 @@ pub const PATTERNS: [(Kind, &str); 11] = [
         "nominate at 4 , party 1 , other 1 , right 2 , side 1 : ? ? ? ? ?",
     ),
     (Call(Match), "match at 4 , direction 1 , session 1"),
-    (Read(Left), "left of / 1 , hour 1"),
+    (Read(Left(CapacityKind::Direction)), "left of / 1 , hour 1"),
     (Read(Right), "right 2"),
     (Read(Confirmed), "confirmed of right 2 , out 1 , in 1"),
 ];

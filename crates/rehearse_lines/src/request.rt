@@ -1,19 +1,19 @@
 // What a line asks for, read mark by mark.
 ghost use Rattle.std.specs.Prelude.{◌<◌, IfSome, length};
 
-use crate::kinds::Kind;
+use crate::kinds::{CallKind, Kind};
 use crate::marks::Mark;
 use crate::unfit::{Unfit, Wanted};
 use rehearse_numbers::{Width, fits, leading_number};
 use rehearse_text::{Numbers, ends_word, is_over, past_all, past_sign, past_word};
 
-// Its numbers in their order; the map of a profile's directions is its only number. A code that a line doesn't have is zeros.
+// Its numbers in their order; the map of a profile's directions is its only number. No numbers are expected where there are none in `expected`, since an equals
+// sign without a number is refused: an `Option` would be no plainer.
 // A kind beside its numbers in a row: the patterns say what each number is, and a case for each kind would say it twice.
 #[derive(Drop)]
 pub struct Request {
     pub kind: Kind,
     pub given: Numbers,
-    pub code: [u8; 16],
     pub expected: Numbers,
 }
 
@@ -23,11 +23,7 @@ fn next_number(line: &[u8]) -> Option<(u64, &[u8])>
     ensures { IfSome result (λ next. length next.1.now < length line.now) }
 {
     let (number, rest) = leading_number(past_all(line, b' '))?;
-    if ends_word(rest) {
-        Some((number, rest))
-    } else {
-        None
-    }
+    ends_word(rest).then_some((number, rest))
 }
 
 // The digits of the number that stands next, without zeros before them.
@@ -50,28 +46,18 @@ fn next_code(line: &[u8]) -> Option<(&[u8; 16], &[u8])> {
     if code.iter().any(|byte| ends_code(*byte)) {
         return None;
     }
-    match rest {
-        [] | [b' ' | b',', ..] => Some((code, rest)),
-        _ => None,
-    }
+    matches!(rest, [] | [b' ' | b',', ..]).then_some((code, rest))
 }
 
 // An equals sign is a word.
 fn past_equals(line: &[u8]) -> Option<&[u8]> {
     let rest = past_all(line.strip_prefix(b" ")?, b' ').strip_prefix(b"=")?;
-    match rest {
-        [] | [b' ', ..] => Some(rest),
-        _ => None,
-    }
+    matches!(rest, [] | [b' ', ..]).then_some(rest)
 }
 
 // The call ends with the line, or before the numbers expected.
 fn at_end_of_call(line: &[u8]) -> Option<&[u8]> {
-    if is_over(line) || past_equals(line).is_some() {
-        Some(line)
-    } else {
-        None
-    }
+    (is_over(line) || past_equals(line).is_some()).then_some(line)
 }
 
 // ---- marks
@@ -107,9 +93,10 @@ impl Request {
         Ok(at_end_of_call(rest))
     }
 
+    // Only the line of a party has a code.
     fn take_code<'a>(&mut self, line: &'a [u8]) -> Option<&'a [u8]> {
         let (code, rest) = next_code(line)?;
-        self.code = *code;
+        self.kind = Kind::Call(CallKind::Party(*code));
         Some(rest)
     }
 
@@ -164,7 +151,6 @@ pub fn matched<'a>(kind: Kind, marks: &'static str, line: &'a [u8]) -> Result<Re
     let mut request = Request {
         kind,
         given: Numbers::default(),
-        code: [0; 16],
         expected: Numbers::default(),
     };
     let mut rest = line;

@@ -29,7 +29,7 @@ pub fn fits(value: u64, width: Width) -> bool
     value < limit_of(width)
 }
 
-// A field of one, two or four bytes. Its three impls stand written out, since the gate refuses an impl that a macro of this repository writes.
+// A field of one, two or four bytes. Each impl is written out: `rt ci` refuses one that a macro of the repository writes.
 pub trait Field {
     ghost value: { Self → ℕ };
 
@@ -69,7 +69,7 @@ impl Field for u32 {
     }
 }
 
-// What a field of the type that is asked for keeps of a number.
+// What a field of the type that is asked for keeps of a number. `Field::keep` at the callers is no plainer: most of their calls break into many lines.
 pub fn kept<F: Field>(number: u64) -> F
     ensures { F.value result ≡ number % F.size }
 {

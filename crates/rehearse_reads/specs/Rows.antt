@@ -1,6 +1,6 @@
 -- The numbers of a reply, in their order: those that the rules give.
 -- Assumes nothing.
-use Rattle.std.specs.Prelude.{ℕ, List, [], ◌∷◌, Result}
+use Rattle.std.specs.Prelude.{ℕ, List, [], ◌∷◌, Result, Ok, Err}
 use Rattle.rules.specs.Said.{Answer, said}
 use Rattle.rules.specs.declared.Refusal.{Refusal}
 use Rattle.answers.specs.declared.LeftRead.{LeftRead}
@@ -26,7 +26,8 @@ abbrev pub of_confirmed : Result (List ℕ) Refusal → List ℕ
 of_confirmed r = (said_confirmed r).reply.number ∷ (said_confirmed r).mw
 
 abbrev pub numbers_of : Reply → List ℕ
-numbers_of (Opening a day) = of_call a
+numbers_of (Opening (Ok opened)) = of_call (Ok opened.0)
+numbers_of (Opening (Err refusal)) = of_call (Err refusal)
 numbers_of (Call kind a) = of_call a
 numbers_of (Left r) = of_left r
 numbers_of (Right r) = of_right r

@@ -9,15 +9,15 @@ ghost use Rattle.rehearse_reads.specs.Rows.{of_call, of_left, of_right, of_confi
 use answers::{LeftRead, RightRead};
 use cells::Book;
 use day::Day;
-use rehearse_lines::{CallKind, ReadKind};
+use rehearse_lines::{CallKind, CapacityKind, ReadKind};
 use rehearse_numbers::kept;
 use rehearse_text::Numbers;
 use rules::{Answer, Hour, Refusal};
 
 #[derive(Clone, Copy)]
 pub enum Reply {
-    // With the day of the book.
-    Opening(Answer, Day),
+    // With the day that was opened.
+    Opening(Result<(u32, Day), Refusal>),
     Call(CallKind, Answer),
     Left(Result<LeftRead, Refusal>),
     Right(Result<RightRead, Refusal>),
@@ -30,13 +30,12 @@ pub fn read(book: &Book, kind: ReadKind, given: [u64; 10]) -> Reply
 {
     let [first, second, third, ..] = given;
     match kind {
-        ReadKind::Left => {
-            let hour = Hour(kept(second));
-            Reply::Left(daybook::left_of_direction(book, kept(first), hour))
-        }
-        ReadKind::LeftOfProfile => {
-            let hour = Hour(kept(second));
-            Reply::Left(daybook::left_of_profile(book, kept(first), hour))
+        ReadKind::Left(of) => {
+            let (number, hour) = (kept(first), Hour(kept(second)));
+            Reply::Left(match of {
+                CapacityKind::Direction => daybook::left_of_direction(book, number, hour),
+                CapacityKind::Profile => daybook::left_of_profile(book, number, hour),
+            })
         }
         ReadKind::Right => Reply::Right(daybook::right_at(book, kept(first))),
         ReadKind::Confirmed => {
@@ -48,6 +47,7 @@ pub fn read(book: &Book, kind: ReadKind, given: [u64; 10]) -> Reply
 
 // ---- the numbers of a reply
 
+// Here and below not `From`, as in `answers::numbers`: each clause would become a ghost member that says the same equation.
 fn of_call(answer: Answer) -> Numbers
     ensures { result.0.items ≡ of_call answer }
 {
@@ -122,7 +122,8 @@ impl Reply {
         ensures { result.0.items ≡ numbers_of self }
     {
         match self {
-            Reply::Opening(answer, _) | Reply::Call(_, answer) => of_call(answer),
+            Reply::Opening(answer) => of_call(answer.map(|(detail, _)| detail)),
+            Reply::Call(_, answer) => of_call(answer),
             Reply::Left(read) => of_left(read),
             Reply::Right(read) => of_right(read),
             Reply::Confirmed(read) => of_confirmed(read),

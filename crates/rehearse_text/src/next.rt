@@ -45,8 +45,9 @@ pub fn past_word<'a>(text: &'a [u8], word: &[u8]) -> Option<&'a [u8]>
     ensures ends { IfSome result (λ rest. is_at_break rest.now ≡ true) }
     ensures none { IfNone result ((rest : List ℕ) → drop (prefix_len (λ b. b == 32) text.now) text.now ≡ word.now ++ rest → is_at_break rest ≡ false) }
 {
-    let rest = past_all(text, b' ').strip_prefix(word)?;
-    if ends_word(rest) { Some(rest) } else { None }
+    past_all(text, b' ')
+        .strip_prefix(word)
+        .filter(|rest| ends_word(rest))
 }
 
 // Past this sign, where it stands right here.

@@ -1,12 +1,11 @@
 -- A line is shown part by part, each up to a byte that is no printable ASCII.
 -- Assumes nothing.
-use Rattle.std.proofs.Common.{◌≡◌, ◌≢◌, ℕ, suc, ◌+◌, ◌-◌, ◌<◌, ◌≤◌, Bool, true, false, cond, Option, List, [], ◌∷◌, ◌++◌, length, take, drop, refl, sym, ap, ◌∙◌, arith, append-nil, append_assoc, Result, Ok, Err, OnOk, if◌then◌else◌}
+use Rattle.std.proofs.Common.{◌≡◌, ◌≢◌, ℕ, suc, ◌+◌, ◌-◌, ◌<◌, ◌≤◌, Bool, true, false, cond, Option, List, [], ◌∷◌, ◌++◌, length, take, drop, refl, sym, ap, ◌∙◌, arith, append-nil, Result, Ok, Err, OnOk}
 use Rattle.std.specs.List.{prefix_len}
 use Rattle.std.specs.Io.KnownBytes.{Appends}
 use Rattle.std.proofs.KnownBytes.{Appends-trans}
 use Rattle.std.proofs.lemmas.List.{take_all}
-use Rattle.rehearse_words.specs.Texts.{is_printable, shown, is_other, WritesText, WritesAnswer, unfit_line}
-use Rattle.rehearse_text.specs.Rows.{row_text}
+use Rattle.rehearse_words.specs.Texts.{is_printable, shown, unfit_line}
 use lib.Chars.{codes}
 use Rattle.rehearse_lines.specs.declared.unfit.Unfit.{Unfit}
 use Rattle.rehearse_lines.specs.declared.unfit.Unfit.TheVariants.{TooLong, TooLarge, Expects, Unopened}
@@ -47,21 +46,9 @@ module _ (rest clear other : List ℕ) (n : ℕ) (count : n ≡ prefix_len is_pr
       whole [] h e = absurd (omega arith)
       whole (b ∷ o) h e = let all : take (length (b ∷ o) - 1) o ≡ o = take_all _ _ (omega arith) in rw all e
 
--- ---- an answer, from what its parts write
-
 pub on_ok : {T E P Q : Type 0} (r : Result T E) → (P → Q) → OnOk r P → OnOk r Q
 on_ok (Ok x) f p = f p
 on_ok (Err e) f p = p
-
-pub answered : (a b c d e : Option (List ℕ)) (line expected numbers row mark : List ℕ) (differs : Bool)
-    → row ≡ numbers → differs ≡ is_other expected numbers → mark ≡ (if differs then codes "  <== differs" else [])
-    → Appends a b (shown line) → Appends b c (codes " -> " ++ (row_text row ++ codes "  ")) → WritesText c d → Appends d e (mark ++ 10 ∷ [])
-    → WritesAnswer a e line expected numbers
-answered a b c d e line expected numbers row mark differs same other marked p q w r =
-    let rest : List ℕ = w.text ++ (mark ++ 10 ∷ []) in
-    let all = Appends-trans a b e (shown line) _ p (Appends-trans b c e _ rest q (Appends-trans c d e w.text _ w.appends r)) in
-    let apart = append_assoc (row_text row) (32 ∷ 32 ∷ []) rest in
-    record { words = w.text; appends = rw (apart, same, marked, other) at all }
 
 -- ---- a reason behind its line
 

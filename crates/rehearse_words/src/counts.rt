@@ -1,5 +1,6 @@
 // The count of lines.
 ghost use Rattle.std.specs.Prelude.{◌≡◌, ◌+◌, min, nat_lt, if◌then◌else◌};
+ghost use Rattle.rehearse_words.specs.Texts.{differ_text};
 
 use std::fmt;
 
@@ -34,12 +35,23 @@ impl Counts {
     }
 }
 
+fn differ_word(lines: u64) -> &'static str
+    ensures { result.now ≡ differ_text lines }
+{
+    if lines == 1 { "differs" } else { "differ" }
+}
+
 impl fmt::Display for Counts {
+    ghost use Rattle.std.specs.Prelude.{Some};
+    ghost use Rattle.rehearse_words.specs.Texts.{counts_text};
+
+    ghost output = { λ counts. Some (counts_text counts) };
+
     fn fmt<W: fmt::Write>(&self, f: &mut fmt::Formatter<W>) -> fmt::Result {
         let answered = self.answered;
         let differing = self.differing;
         let not_understood = self.not_understood;
-        let differ = if differing == 1 { "differs" } else { "differ" };
+        let differ = differ_word(differing);
         write!(
             f,
             "{answered} lines answered, {differing} {differ} from what was expected, {not_understood} not understood"

@@ -1,12 +1,11 @@
 // What is said of a line: its answer in numbers and in words, or why it has none; and the count of lines.
 #![tactic(auto)]
 
-ghost use Rattle.std.specs.Prelude.{◌≡◌, ◌≤◌, ◌∷◌, ◌++◌, [], length, OnOk, if◌then◌else◌};
-ghost use lib.Chars.{codes};
+ghost use Rattle.std.specs.Prelude.{◌≡◌, ◌≤◌, ◌∷◌, ◌++◌, [], length, OnOk};
 ghost use Rattle.std.specs.Io.KnownBytes.{Appends};
 ghost use Rattle.std.specs.List.{prefix_len};
 ghost use Rattle.rehearse_reads.specs.Rows.{numbers_of};
-ghost use Rattle.rehearse_words.specs.Texts.{is_printable, shown, is_other, WritesAnswer, unfit_line};
+ghost use Rattle.rehearse_words.specs.Texts.{is_printable, shown, is_other, mark_text, answer_line, unfit_line};
 
 mod counts;
 mod words;
@@ -16,6 +15,7 @@ use rehearse_lines::{Request, Unfit};
 use rehearse_reads::Reply;
 use std::io;
 use std::io::Write;
+use words::InWords;
 
 fn is_printable(byte: u8) -> bool
     ensures { result ≡ is_printable byte }
@@ -63,7 +63,7 @@ pub fn differs(request: &Request, reply: Reply) -> bool
 
 // What stands behind a line whose numbers are others than were expected.
 fn mark(differs: bool) -> &'static str
-    ensures { result.now ≡ (if differs then codes "  <== differs" else []) }
+    ensures { result.now ≡ mark_text differs }
 {
     if differs { "  <== differs" } else { "" }
 }
@@ -74,14 +74,13 @@ pub fn write_answered<W: Write>(
     request: &Request,
     reply: Reply,
 ) -> io::Result<()>
-    ensures { OnOk result (WritesAnswer (W.contents out.old) (W.contents out.new) line.now request.now.expected.0.items (numbers_of reply)) }
+    ensures { OnOk result (Appends (W.contents out.old) (W.contents out.new) (answer_line line.now request.now.expected.0.items reply)) }
 {
     let numbers = reply.numbers();
+    let words = InWords(reply);
     let mark = mark(differs(request, reply));
     write_shown(out, line)?;
-    write!(out, " -> {numbers}  ")?;
-    words::write_reply(out, reply)?;
-    writeln!(out, "{mark}")
+    writeln!(out, " -> {numbers}  {words}{mark}")
 }
 
 // A line that is too long is not shown.

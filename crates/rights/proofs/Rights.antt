@@ -24,69 +24,75 @@ use Rattle.stores.proofs.Tables.{right_more, length-row}
 use Rattle.stores.proofs.Raised.{right_raised, length-five}
 use Rattle.cells.proofs.Entries.{rights_are}
 use Rattle.cells.proofs.Views.{right_count, right_at_lem}
+use Rattle.tables.specs.declared.RightKey.{RightKey}
+use Rattle.rights.specs.declared.RightOfBid.{RightOfBid}
 use Rattle.rights.specs.Work.{standing_right, right_for, entry_of, entry_in, Enters, NewRight, Booked}
 
 -- ---- the search
 
-abbrev place : List ℕ → ℕ → ℕ → ℕ → ℕ
-place b h d s = place_of (is_right_of h d s) (book_of b).rights
+-- a right with the key
+abbrev pub is_right : RightKey → Right → Bool
+is_right key = is_right_of key.holder key.direction key.session.0
+
+abbrev place : List ℕ → RightKey → ℕ
+place b key = place_of (is_right key) (book_of b).rights
 
 -- what the library's search over the rows finds
-pub row_found : (b : List ℕ) (h d s : ℕ) {rs : List (List ℕ)} {f : Option ℕ} → rs ≡ rows_in b RIGHTS 8 right_limit → f ≡ position (λ row. is_right_of h d s (right_read row)) rs → f ≡ standing_right b h d s
+pub row_found : (b : List ℕ) (key : RightKey) {rs : List (List ℕ)} {f : Option ℕ} → rs ≡ rows_in b RIGHTS 8 right_limit → f ≡ position (λ row. is_right key (right_read row)) rs → f ≡ standing_right b key
 unfolding standing_right
-row_found b h d s {rs} e q = q ∙ position_in (is_right_of h d s) right_read rs ∙ rw (e, rights_are b) refl
+row_found b key {rs} e q = q ∙ position_in (is_right key) right_read rs ∙ rw (e, rights_are b) refl
 
 -- a standing right was found, or none
-pub found_at : (b : List ℕ) (h d s i : ℕ) → standing_right b h d s ≡ Some i → (i ≡ place b h d s) × (i < counted b RIGHTS right_limit)
+pub found_at : (b : List ℕ) (key : RightKey) (i : ℕ) → standing_right b key ≡ Some i → (i ≡ place b key) × (i < counted b RIGHTS right_limit)
 unfolding standing_right
-found_at b h d s i e = rw (← right_count b) (position_at (is_right_of h d s) (book_of b).rights i e)
+found_at b key i e = rw (← right_count b) (position_at (is_right key) (book_of b).rights i e)
 
-found_none : (b : List ℕ) (h d s : ℕ) → standing_right b h d s ≡ None → length (book_of b).rights ≤ place b h d s
+found_none : (b : List ℕ) (key : RightKey) → standing_right b key ≡ None → length (book_of b).rights ≤ place b key
 unfolding standing_right
-found_none b h d s e = position_none (is_right_of h d s) (book_of b).rights e
+found_none b key e = position_none (is_right key) (book_of b).rights e
 
 -- it depends on the rights alone
-standing_is : (b : List ℕ) (h d s : ℕ) → standing_right b h d s ≡ cond (ltb (place b h d s) (length (book_of b).rights)) (Some (place b h d s)) None
+standing_is : (b : List ℕ) (key : RightKey) → standing_right b key ≡ cond (ltb (place b key) (length (book_of b).rights)) (Some (place b key)) None
 unfolding standing_right
-standing_is b h d s = position_is (is_right_of h d s) (book_of b).rights
+standing_is b key = position_is (is_right key) (book_of b).rights
 
-taken_is : (b : List ℕ) (h d s : ℕ) → right_taken h d s (book_of b).rights ≡ ltb (place b h d s) (length (book_of b).rights)
-taken_is b h d s = right_taken_lem h d s (book_of b).rights ∙ some_is (is_right_of h d s) (book_of b).rights
+taken_is : (b : List ℕ) (key : RightKey) → right_taken key.holder key.direction key.session.0 (book_of b).rights ≡ ltb (place b key) (length (book_of b).rights)
+taken_is b key = right_taken_lem _ _ _ (book_of b).rights ∙ some_is (is_right key) (book_of b).rights
 
 -- ---- the entry
 
--- it is refused where 13 applies
+-- where 13 applies
+abbrev pub IsFull : Book → RightOfBid → Bool
+IsFull b x = leb right_limit (length b.rights) && (eqb x.model 1 || not (right_taken x.key.holder x.key.direction x.key.session.0 b.rights))
+
+-- it is refused there
 refused : Result (Option ℕ) Refusal → Bool
 refused (Ok e) = false
 refused (Err r) = true
 
-full_is : (b : List ℕ) (model h d s : ℕ)
-    → refused (entry_in b model h d s) ≡ (leb right_limit (length (book_of b).rights) && (eqb model 1 || not (right_taken h d s (book_of b).rights)))
+full_is : (b : List ℕ) (x : RightOfBid) → refused (entry_in b x) ≡ IsFull (book_of b) x
 unfolding entry_in right_for refused
-full_is b model h d s =
-    rw (standing_is b h d s, taken_is b h d s, ← right_count b) (go (leb right_limit (length (book_of b).rights)) (eqb model 1) (ltb (place b h d s) (length (book_of b).rights)))
+full_is b x =
+    rw (standing_is b x.key, taken_is b x.key, ← right_count b) (go (leb right_limit (length (book_of b).rights)) (eqb x.model 1) (ltb (place b x.key) (length (book_of b).rights)))
   where
-    go : (p m t : Bool) → refused (cond p (entry_of (cond m None (cond t (Some (place b h d s)) None))) (Ok None)) ≡ (p && (m || not t))
+    go : (p m t : Bool) → refused (cond p (entry_of (cond m None (cond t (Some (place b x.key)) None))) (Ok None)) ≡ (p && (m || not t))
     go false m t = refl
     go true true t = refl
     go true false true = refl
     go true false false = refl
 
-abbrev pub IsFull : Book → ℕ → ℕ → ℕ → ℕ → Bool
-IsFull b model h d s = leb right_limit (length b.rights) && (eqb model 1 || not (right_taken h d s b.rights))
-
-pub full_refused : (b : List ℕ) (model h d s : ℕ) {r : Refusal} → Err r ≡ entry_in b model h d s → IsFull (book_of b) model h d s ≡ true
+pub full_refused : (b : List ℕ) (x : RightOfBid) {r : Refusal} → Err r ≡ entry_in b x → IsFull (book_of b) x ≡ true
 unfolding refused
-full_refused b model h d s q = sym (full_is b model h d s) ∙ ap refused (sym q)
+full_refused b x q = sym (full_is b x) ∙ ap refused (sym q)
 
-pub full_passed : (b : List ℕ) (model h d s : ℕ) {e : Option ℕ} → Ok e ≡ entry_in b model h d s → IsFull (book_of b) model h d s ≡ false
+pub full_passed : (b : List ℕ) (x : RightOfBid) {e : Option ℕ} → Ok e ≡ entry_in b x → IsFull (book_of b) x ≡ false
 unfolding refused
-full_passed b model h d s q = sym (full_is b model h d s) ∙ ap refused (sym q)
+full_passed b x q = sym (full_is b x) ∙ ap refused (sym q)
 
 -- the refusal is 13's
-pub refused_full : (b : List ℕ) (model h d s : ℕ) {r : Refusal} → Err r ≡ entry_in b model h d s → r ≡ Full
+pub refused_full : (b : List ℕ) (x : RightOfBid) {r : Refusal} → Err r ≡ entry_in b x → r ≡ Full
 unfolding entry_in
-refused_full b model h d s {r} q = go (leb right_limit (counted b RIGHTS right_limit)) (right_for b model h d s) q
+refused_full b x {r} q = go (leb right_limit (counted b RIGHTS right_limit)) (right_for b x) q
   where
     go : (t : Bool) (f : Option ℕ) → Err r ≡ cond t (entry_of f) (Ok None) → r ≡ Full
     go true (Some j) z = absurd (let n : ◌≡◌ {A = ℕ} 0 1 = cc in omega arith)
@@ -94,16 +100,16 @@ refused_full b model h d s {r} q = go (leb right_limit (counted b RIGHTS right_l
     go false f z = absurd (let n : ◌≡◌ {A = ℕ} 0 1 = cc in omega arith)
 
 -- it depends on the rights alone
-pub enters_still : {b b' : List ℕ} {model h d s : ℕ} {e : Option ℕ} → (book_of b').rights ≡ (book_of b).rights → Enters b model h d s e → Enters b' model h d s e
+pub enters_still : {b b' : List ℕ} {x : RightOfBid} {e : Option ℕ} → (book_of b').rights ≡ (book_of b).rights → Enters b x e → Enters b' x e
 unfolding entry_in right_for
-enters_still {b} {b'} {model} {h} {d} {s} r k =
-    record { entry_is = k.entry_is ∙ rw (standing_is b h d s, standing_is b' h d s, ← right_count b, ← right_count b', r) }
+enters_still {b} {b'} {x} r k =
+    record { entry_is = k.entry_is ∙ rw (standing_is b x.key, standing_is b' x.key, ← right_count b, ← right_count b', r) }
 
-module _ {b : List ℕ} {model h d s : ℕ} {e : Option ℕ} (k : Enters b model h d s e) where
+module _ {b : List ℕ} {x : RightOfBid} {e : Option ℕ} (k : Enters b x e) where
   -- the right that the verdict found
-  pub entered_at : (i : ℕ) → e ≡ Some i → right_for b model h d s ≡ Some i
+  pub entered_at : (i : ℕ) → e ≡ Some i → right_for b x ≡ Some i
   unfolding entry_in
-  entered_at i q = go (leb right_limit (counted b RIGHTS right_limit)) (right_for b model h d s) (let there = rw q at k.entry_is in sym there)
+  entered_at i q = go (leb right_limit (counted b RIGHTS right_limit)) (right_for b x) (let there = rw q at k.entry_is in sym there)
     where
       go : (t : Bool) (f : Option ℕ) → cond t (entry_of f) (Ok None) ≡ Ok (Some i) → f ≡ Some i
       go true (Some j) z = cc
@@ -111,7 +117,7 @@ module _ {b : List ℕ} {model h d s : ℕ} {e : Option ℕ} (k : Enters b model
       go false f z = absurd (let n : ◌≡◌ {A = ℕ} 0 1 = cc in omega arith)
 
   -- a bid that no right takes has room for a new one
-  pub has_room : right_for b model h d s ≡ None → counted b RIGHTS right_limit < right_limit
+  pub has_room : right_for b x ≡ None → counted b RIGHTS right_limit < right_limit
   unfolding entry_in
   has_room n = go (leb right_limit (counted b RIGHTS right_limit)) refl
     where
@@ -121,74 +127,74 @@ module _ {b : List ℕ} {model h d s : ℕ} {e : Option ℕ} (k : Enters b model
 
 -- ---- the right that takes the MW
 
-module _ (b : List ℕ) (model h d s i : ℕ) (e : right_for b model h d s ≡ Some i) where
-  stands : (eqb model 1 ≡ false) × (standing_right b h d s ≡ Some i)
+module _ (b : List ℕ) (x : RightOfBid) (i : ℕ) (e : right_for b x ≡ Some i) where
+  stands : (eqb x.model 1 ≡ false) × (standing_right b x.key ≡ Some i)
   unfolding right_for
-  stands = go (eqb model 1) e
+  stands = go (eqb x.model 1) e
     where
-      go : (t : Bool) → cond t None (standing_right b h d s) ≡ Some i → (t ≡ false) × (standing_right b h d s ≡ Some i)
+      go : (t : Bool) → cond t None (standing_right b x.key) ≡ Some i → (t ≡ false) × (standing_right b x.key ≡ Some i)
       go true z = absurd (let n : ◌≡◌ {A = ℕ} 0 1 = cc in omega arith)
       go false z = (refl, z)
 
   pub below : i < counted b RIGHTS right_limit
-  below = (found_at b h d s i stands.1).1
+  below = (found_at b x.key i stands.1).1
 
 -- ---- the right of a granted bid
 
-module _ (b : List ℕ) (model h d s : ℕ) (mw : List ℕ) where
+module _ (b : List ℕ) (x : RightOfBid) (mw : List ℕ) where
   abbrev new : Right
-  new = record { holder = h; direction = d; session = s; mw = mw }
+  new = record { holder = x.key.holder; direction = x.key.direction; session = x.key.session.0; mw = mw }
 
   -- where no right takes the MW
-  module _ (n : right_for b model h d s ≡ None) where
-    new_right : with_right model h d s mw (book_of b).rights ≡ (book_of b).rights ++ (new ∷ [])
+  module _ (n : right_for b x ≡ None) where
+    new_right : with_right x.model x.key.holder x.key.direction x.key.session.0 mw (book_of b).rights ≡ (book_of b).rights ++ (new ∷ [])
     unfolding with_right right_for
-    new_right = go (eqb model 1) n
+    new_right = go (eqb x.model 1) n
       where
-        go : (t : Bool) → cond t None (standing_right b h d s) ≡ None → cond t ((book_of b).rights ++ (new ∷ [])) (added_right h d s mw (book_of b).rights) ≡ (book_of b).rights ++ (new ∷ [])
+        go : (t : Bool) → cond t None (standing_right b x.key) ≡ None → cond t ((book_of b).rights ++ (new ∷ [])) (added_right x.key.holder x.key.direction x.key.session.0 mw (book_of b).rights) ≡ (book_of b).rights ++ (new ∷ [])
         go true e = refl
-        go false e = added_right_lem h d s mw (book_of b).rights ∙ changed_new (is_right_of h d s) (raised mw) new (book_of b).rights (found_none b h d s e)
+        go false e = added_right_lem _ _ _ mw (book_of b).rights ∙ changed_new (is_right x.key) (raised mw) new (book_of b).rights (found_none b x.key e)
 
-    new_number : right_number model h d s (book_of b).rights ≡ length (book_of b).rights
+    new_number : right_number x.model x.key.holder x.key.direction x.key.session.0 (book_of b).rights ≡ length (book_of b).rights
     unfolding right_number right_for
-    new_number = go (eqb model 1) n
+    new_number = go (eqb x.model 1) n
       where
-        go : (t : Bool) → cond t None (standing_right b h d s) ≡ None → cond t (length (book_of b).rights) (right_from h d s (book_of b).rights) ≡ length (book_of b).rights
+        go : (t : Bool) → cond t None (standing_right b x.key) ≡ None → cond t (length (book_of b).rights) (right_from x.key.holder x.key.direction x.key.session.0 (book_of b).rights) ≡ length (book_of b).rights
         go true e = refl
         go false e =
-            let l = found_none b h d s e in
-            let q = place_le (is_right_of h d s) (book_of b).rights in
-            right_from_lem h d s (book_of b).rights ∙ omega arith
+            let l = found_none b x.key e in
+            let q = place_le (is_right x.key) (book_of b).rights in
+            right_from_lem _ _ _ (book_of b).rights ∙ omega arith
 
-    pub opened_books : (b' : List ℕ) (i : ℕ) → counted b RIGHTS right_limit < right_limit → NewRight b h d s mw i b' → Booked b model h d s mw i b'
+    pub opened_books : (b' : List ℕ) (i : ℕ) → counted b RIGHTS right_limit < right_limit → NewRight b x.key mw i b' → Booked b x mw i b'
     opened_books b' i l o =
         let m : i < right_limit = rw o.number_is l in
         record {
-          count = ap length o.cells_are ∙ length-row RIGHTS i (h ∷ d ∷ s ∷ mw) b ∙ o.cells.count;
+          count = ap length o.cells_are ∙ length-row RIGHTS i (x.key.holder ∷ x.key.direction ∷ x.key.session.0 ∷ mw) b ∙ o.cells.count;
           number_is = o.number_is ∙ sym (right_count b) ∙ sym new_number;
           book_is =
               ap book_of o.cells_are
-              ∙ right_more b i h d s mw o.bytes m o.cells.count o.mw_five (sym o.number_is)
+              ∙ right_more b i _ _ _ mw o.bytes m o.cells.count o.mw_five (sym o.number_is)
               ∙ ap (λ (rs : List Right). with_rights (book_of b) rs) (sym new_right);
         }
 
   -- where right i takes them
-  module _ (i : ℕ) (e : right_for b model h d s ≡ Some i) where
-    pub raised_books : {b' : List ℕ} {at : ℕ} → length b ≡ CELLS → length mw ≡ 5 → b' ≡ added_five at mw b → at ≡ RIGHTS + 4 + i * 8 → Booked b model h d s mw i b'
+  module _ (i : ℕ) (e : right_for b x ≡ Some i) where
+    pub raised_books : {b' : List ℕ} {at : ℕ} → length b ≡ CELLS → length mw ≡ 5 → b' ≡ added_five at mw b → at ≡ RIGHTS + 4 + i * 8 → Booked b x mw i b'
     unfolding with_right right_number
     raised_books u size cells_are at_is =
-        let w = stands b model h d s i e in
-        let p = (found_at b h d s i w.1).0 in
-        let q = below b model h d s i e in
+        let w = stands b x i e in
+        let p = (found_at b x.key i w.1).0 in
+        let q = below b x i e in
         let l : i < length (book_of b).rights = rw (right_count b) q in
         rw (cells_are, at_is) (record {
           count = length-five (RIGHTS + 4 + i * 8) mw b ∙ u;
-          number_is = rw w.0 (p ∙ sym (right_from_lem h d s (book_of b).rights));
+          number_is = rw w.0 (p ∙ sym (right_from_lem _ _ _ (book_of b).rights));
           book_is =
               right_raised b i mw (omega arith) u size q
               ∙ rw w.0
               (ap (λ (rs : List Right). with_rights (book_of b) rs)
-              (sym (added_right_lem h d s mw (book_of b).rights
-              ∙ changed_there (is_right_of h d s) (raised mw) new (record { holder = 0; direction = 0; session = 0; mw = no_mw }) (book_of b).rights (rw (← p) l)
+              (sym (added_right_lem _ _ _ mw (book_of b).rights
+              ∙ changed_there (is_right x.key) (raised mw) new (record { holder = 0; direction = 0; session = 0; mw = no_mw }) (book_of b).rights (rw (← p) l)
               ∙ rw (← p) (ap (λ (x : Right). set (book_of b).rights i (raised mw x)) (right_at_lem b i q)))));
         })

@@ -13,87 +13,82 @@ use tables::RightKey;
 
 // ---- the standing right
 
-// The first right with the key.
+// The first right with the key. Beside `pairs::standing_pair`: one search would need a trait for the keys, with its laws, to save two lines.
 fn standing(book: &Book, key: RightKey) -> Option<u32>
-    ensures { result ≡ standing_right book.now key.holder key.direction key.session.0 }
+    ensures { result ≡ standing_right book.now key }
 {
     let rows = cells::RIGHTS.rows(book);
     let number = rows.iter().position(|row| RightKey::of_row(row) == key)?;
     Some(number as u32)
 }
 
-// The right that takes the MW of a bid: none in the one-hour model.
-#[tactic(auto, using(std::proofs::lemmas::Bool::Decides::nat_tests), unfolding(crate::specs::Work::right_for))]
-fn right_for(book: &Book, model: u32, key: RightKey) -> Option<u32>
-    ensures { result ≡ right_for book.now model key.holder key.direction key.session.0 }
-{
-    if model == 1 {
-        return None;
-    }
-    standing(book, key)
+// The right that a bid asks for: what tells it from others, and the model of its direction (a number, as in `tables::Direction`), which a row doesn't have.
+#[derive(Clone, Copy)]
+pub struct RightOfBid {
+    pub model: u32,
+    pub key: RightKey,
 }
 
-// ---- the entry of a bid
-
-// What a bid finds in the table: `Ok(None)` where there is room for a right more, `Ok(Some)` with the right that takes its MW where there is none, and
-// `Err` where there is neither. Only a full table is searched: with room the bid may still be short.
-pub fn entry_of(book: &Book, model: u32, key: RightKey) -> Result<Option<u32>, Refusal>
-    ensures { result ≡ entry_in book.now model key.holder key.direction key.session.0 }
-{
-    if !cells::RIGHTS.is_full(book) {
-        return Ok(None);
+impl RightOfBid {
+    // The right that takes the MW: none in the one-hour model.
+    #[tactic(auto, using(std::proofs::lemmas::Bool::Decides::nat_tests), unfolding(crate::specs::Work::right_for))]
+    fn standing(self, book: &Book) -> Option<u32>
+        ensures { result ≡ right_for book.now self }
+    {
+        if self.model == 1 {
+            return None;
+        }
+        standing(book, self.key)
     }
-    match right_for(book, model, key) {
-        Some(i) => Ok(Some(i)),
-        None => Err(Refusal::Full),
+
+    // What a bid finds in the table: `Ok(None)` where there is room for a right more, `Ok(Some)` with the right that takes its MW where there is none, and
+    // `Err` where there is neither. A table with room isn't searched: the bid may still be short.
+    pub fn entry(self, book: &Book) -> Result<Option<u32>, Refusal>
+        ensures { result ≡ entry_in book.now self }
+    {
+        if !cells::RIGHTS.is_full(book) {
+            return Ok(None);
+        }
+        let right = self.standing(book).ok_or(Refusal::Full)?;
+        Ok(Some(right))
+    }
+
+    // The right that takes the MW: as the verdict found it, or searched now where the table has room.
+    fn by_entry(self, book: &Book, entry: Option<u32>) -> Option<u32>
+        requires { Enters book.now self entry }
+        ensures { result ≡ right_for book.now self }
+    {
+        entry.or_else(|| self.standing(book))
+    }
+
+    // The right of a granted bid: the standing one takes its MW, or else a new one does.
+    pub fn take_mw(self, book: &mut Book, entry: Option<u32>, mw: [u16; 5]) -> u32
+        requires { Enters book.old self entry }
+        ensures { Booked book.old self mw result book.new }
+    {
+        let Some(i) = self.by_entry(book, entry) else {
+            return open_right(book, self.key, mw);
+        };
+        capacity::add_five(book, cells::RIGHTS.row(i) + 3, mw);
+        i
     }
 }
-
-// ---- the right of a granted bid
 
 // A new right with the MW of a bid: its number. No value carries that the table has room: it is a fact of the cells as they are before the store.
 fn open_right(book: &mut Book, key: RightKey, mw: [u16; 5]) -> u32
     requires { counted book.old RIGHTS right_limit < right_limit }
-    ensures { NewRight book.old key.holder key.direction key.session.0 mw result book.new }
+    ensures { NewRight book.old key mw result book.new }
 {
-    cells::cells_in(book);
-    let mw = mw.map(u32::from);
+    let [first, second, third, fourth, fifth] = mw.map(u32::from);
     let row = [
         key.holder as u32,
         key.direction as u32,
         key.session.0 as u32,
-        mw[0],
-        mw[1],
-        mw[2],
-        mw[3],
-        mw[4],
+        first,
+        second,
+        third,
+        fourth,
+        fifth,
     ];
     stores::add_row(book, &cells::RIGHTS, &row)
-}
-
-// The right that takes the MW: as the verdict found it, or searched now where the table has room.
-fn right_by_entry(book: &Book, entry: Option<u32>, model: u32, key: RightKey) -> Option<u32>
-    requires { Enters book.now model key.holder key.direction key.session.0 entry }
-    ensures { result ≡ right_for book.now model key.holder key.direction key.session.0 }
-{
-    entry.or_else(|| right_for(book, model, key))
-}
-
-// The right of a granted bid: the standing one takes its MW, or else a new one does.
-pub fn book_right(
-    book: &mut Book,
-    entry: Option<u32>,
-    model: u32,
-    key: RightKey,
-    mw: [u16; 5],
-) -> u32
-    requires { Enters book.old model key.holder key.direction key.session.0 entry }
-    ensures { Booked book.old model key.holder key.direction key.session.0 mw result book.new }
-{
-    cells::cells_in(book);
-    let Some(i) = right_by_entry(book, entry, model, key) else {
-        return open_right(book, key, mw);
-    };
-    capacity::add_five(book, cells::RIGHTS.row(i) + 3, mw);
-    i
 }

@@ -32,6 +32,7 @@ fn direction_field(direction: Direction) -> bool
     direction.out == direction.into || !matches!(direction.model, 1 | 4)
 }
 
+// Two fields of three, so no derived equality.
 fn same_operators(standing: Direction, out: u32, into: u32) -> bool
     ensures { result ≡ same_operators (direction_of standing) out into }
 {
@@ -54,7 +55,7 @@ fn direction_taken(book: &Book, direction: Direction) -> bool
 {
     let rows = cells::DIRECTIONS.rows(book);
     rows.iter()
-        .any(|row| direction_clashes(Direction::of_row(row), direction))
+        .any(|row| direction_clashes(Direction::from(*row), direction))
 }
 
 fn direction_verdict(book: &Book, direction: Direction) -> Result<(), Refusal>
@@ -79,7 +80,6 @@ pub fn add_direction(book: &mut Book, direction: Direction) -> Answer
     ensures { Answers book.old (AddDirection direction.out direction.into direction.model) result book.new }
 {
     direction_verdict(book, direction)?;
-    cells::cells_in(book);
     let row = [direction.out, direction.into, direction.model];
     Ok(stores::add_row(book, &cells::DIRECTIONS, &row))
 }
@@ -121,7 +121,6 @@ pub fn add_profile(book: &mut Book, map: u32) -> Answer
     ensures { Answers book.old (AddProfile map) result book.new }
 {
     profile_verdict(book, map)?;
-    cells::cells_in(book);
     let row = [map];
     Ok(stores::add_row(book, &cells::PROFILES, &row))
 }

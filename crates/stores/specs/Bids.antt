@@ -12,7 +12,7 @@ use Rattle.cells.specs.View.{cell}
 abbrev pub added_cell : ℕ → ℕ → List ℕ → List ℕ
 added_cell at mw b = set b at ((cell b at + mw) % 2 ^ 32)
 
--- of profile p, where it holds the direction
+-- of profile p, where it holds the direction; a direction and its hours by number, since `SessionHours` lies in `capacity`, above
 unfoldable pub granted_profile : ℕ → ℕ → ℕ → ℕ → List ℕ → List ℕ
 granted_profile d hour mw p b = if bit (cell b (PROFILES + 1 + p)) d then added_cell (GRANTED + place (of_profile p) hour) mw b else b
 

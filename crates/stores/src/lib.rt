@@ -1,8 +1,7 @@
 // The stores in the cells of a day book that the calls share.
 #![tactic(auto)]
 
-ghost use Rattle.std.specs.Prelude.{◌≡◌, ◌+◌, ◌*◌, ◌<◌, ◌≤◌, length, set, MatchOption};
-ghost use Rattle.std.proofs.lemmas.List.Edits.{sets};
+ghost use Rattle.std.specs.Prelude.{◌≡◌, ◌+◌, ◌<◌, ◌≤◌, length, set, MatchOption};
 ghost use Rattle.rules.specs.Book.{place, flag, direction_limit};
 ghost use Rattle.cells.specs.Layout.{OFFERED, MATCHED};
 ghost use Rattle.cells.specs.View.{counted};
@@ -10,6 +9,7 @@ ghost use Rattle.stores.specs.Stores.{clocked, emptied, with_row};
 
 use calendar::Date;
 use cells::{Book, Place, Table};
+use day::Day;
 use rules::Session;
 
 // An offer.
@@ -36,23 +36,23 @@ pub fn set_clock(book: &mut Book, time: u32)
 }
 
 // An empty book of a day; without a date year, month and day are 0.
-pub fn clear(book: &mut Book, date: Option<Date>, hours: u8, weekday: u8)
-    ensures { MatchOption date (book.new ≡ emptied 0 0 0 hours weekday) (λ d. book.new ≡ emptied d.year d.month d.day hours weekday) }
+pub fn clear(book: &mut Book, date: Option<Date>, day: Day)
+    ensures { MatchOption date (book.new ≡ emptied 0 0 0 day.hours day.weekday) (λ d. book.new ≡ emptied d.year d.month d.day day.hours day.weekday) }
 {
-    let Date { year, month, day } = date.unwrap_or(Date {
+    let date = date.unwrap_or(Date {
         year: 0,
         month: 0,
         day: 0,
     });
     *book = [0u32; cells::CELLS];
-    book[cells::YEAR] = year as u32;
-    book[cells::MONTH] = month as u32;
-    book[cells::DAY] = day as u32;
-    book[cells::HOURS] = hours as u32;
-    book[cells::WEEKDAY] = weekday as u32;
+    book[cells::YEAR] = date.year as u32;
+    book[cells::MONTH] = date.month as u32;
+    book[cells::DAY] = date.day as u32;
+    book[cells::HOURS] = day.hours as u32;
+    book[cells::WEEKDAY] = day.weekday;
 }
 
-// The last row of a table, by its number; the table's count becomes the number and 1. Any slice of the table's width is taken, as ever.
+// The last row of a table, by its number; the table's count becomes the number and 1. Takes any slice of the table's width: an array would ask more of callers.
 #[tactic(auto, using(rules::proofs::Stores::copied), unfolding(crate::specs::Stores::with_row))]
 pub fn set_last_row<const WIDTH: usize>(
     book: &mut Book,
@@ -69,7 +69,7 @@ pub fn set_last_row<const WIDTH: usize>(
     book[table.at] = number + 1;
 }
 
-// A row more in a table that has room: its number.
+// A row more in a table that has room: its number. No value carries that it has room: that is a fact of the cells as they are before the store.
 pub fn add_row<const WIDTH: usize>(book: &mut Book, table: &Table<WIDTH>, row: &[u32; WIDTH]) -> u32
     requires { counted book.old table.now.at table.now.limit < table.now.limit }
     ensures number { result ≡ counted book.old table.now.at table.now.limit }

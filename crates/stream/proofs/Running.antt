@@ -16,9 +16,8 @@ use Rattle.dayrun_progress.specs.States.{collected, answerable, wrote_progress, 
 use Rattle.stream.specs.Input.{following, lines_in, lines_of}
 use Rattle.stream.specs.Running.{AnswersNext, State, next_in, Reaches, begins, answers, writes, reads, WritesAll, WritesAtOnce, WaitsWhereOpen}
 use Rattle.dayrun_records.proofs.Taking.{front_read, front_refused}
-use Rattle.dayrun_settled.proofs.Patterns.{nothing_open}
 use Rattle.dayrun_settled.proofs.Front.{end_least}
-use Rattle.dayrun_settled.proofs.Settled.{settled_stays, unsettled_open, settled_more}
+use Rattle.dayrun_settled.proofs.Settled.{nothing_open, settled_stays, unsettled_open, settled_more}
 use Rattle.dayrun_progress.proofs.Nexts.{answering, reading_on, unanswered, ending}
 
 -- ---- the lines of an input

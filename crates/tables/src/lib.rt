@@ -11,7 +11,7 @@ ghost use Rattle.tables.specs.Rows.{direction_of};
 use cells::{Book, Place};
 use rules::Session;
 
-// A direction: its operators and its model.
+// A direction: its operators and its model, as numbers: the cells may hold any, and an enum would be turned back in each clause.
 #[derive(Clone, Copy, PartialEq, Eq)]
 pub struct Direction {
     pub out: u32,
@@ -27,18 +27,18 @@ pub struct RightKey {
     pub session: Session,
 }
 
-impl Direction {
-    // By the cells of its row. No `From` a reference to an array: the row's kind has a name here.
-    pub fn of_row(row: &[u32; 3]) -> Self
-        ensures { direction_of result ≡ direction_read row.now }
-    {
-        let [out, into, model] = *row;
+// By the cells of its row.
+impl From<[u32; 3]> for Direction {
+    ghost from_gives = { λ row direction. direction_of direction ≡ direction_read row };
+
+    fn from(row: [u32; 3]) -> Direction {
+        let [out, into, model] = row;
         Direction { out, into, model }
     }
 }
 
 impl RightKey {
-    // By the cells of a right's row, which has more than the key.
+    // By the first cells of a right's row. Not `From`, since the row has more than the key.
     pub fn of_row(row: &[u32; 8]) -> Self
         ensures holder { result.holder ≡ (right_read row.now).holder }
         ensures direction { result.direction ≡ (right_read row.now).direction }
@@ -52,7 +52,7 @@ impl RightKey {
     }
 }
 
-// The MW of a place, offered and granted.
+// The MW of a place, offered and granted. Each for itself: a function that is told the table takes as many lines.
 fn offered_at(book: &Book, at: Place) -> u32
     ensures { result ≡ get_or book.now (OFFERED + place at.row at.hour.0) 0 }
 {

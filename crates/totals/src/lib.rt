@@ -20,20 +20,13 @@ pub struct PairLower {
 }
 
 impl PairLower {
-    // By the cells of a pair's row.
+    // By the cells of a pair's row. Not `From`, since the row has both sides.
     #[tactic(auto, unfolding(cells::specs::View::part, cells::specs::View::cell_from, cells::specs::Loops::rows))]
     pub fn of_row(row: &[u32; 13]) -> Self
         ensures { result.lower ≡ five (lower_in row.now) }
     {
-        PairLower {
-            lower: [
-                row[3].min(row[8]),
-                row[4].min(row[9]),
-                row[5].min(row[10]),
-                row[6].min(row[11]),
-                row[7].min(row[12]),
-            ],
-        }
+        let lower = std::array::from_fn(|k| row[3 + k].min(row[8 + k]));
+        PairLower { lower }
     }
 }
 
@@ -44,13 +37,7 @@ pub fn plus(sums: [u64; 5], mw: [u32; 5]) -> [u64; 5]
     requires { Most (2 ^ 63) sums }
     ensures { (result ≡ five (sum_in sums mw)) × Most 4294967295 mw }
 {
-    [
-        sums[0] + mw[0] as u64,
-        sums[1] + mw[1] as u64,
-        sums[2] + mw[2] as u64,
-        sums[3] + mw[3] as u64,
-        sums[4] + mw[4] as u64,
-    ]
+    std::array::from_fn(|k| sums[k] + mw[k] as u64)
 }
 
 // The sums of the lower sides over the pairs.
@@ -60,6 +47,7 @@ fn total_lower(list: &[PairLower]) -> [u64; 5]
 {
     let mut sums = [0u64; 5];
     for pair in list {
+        // By `next`: the check doesn't cover a call's array put straight into a local that holds one.
         let next = plus(sums, pair.lower);
         sums = next;
     }

@@ -21,7 +21,7 @@ const NOMINATIONS_CLOSE: u16 = 1290;
 
 const MATCHING_OPENS: u16 = 1335;
 
-// What the gates of a session go by: the weekday, the model and its first hour.
+// What the gates of a session go by: the weekday, the model and its first hour, numbers as `DaySession` has them.
 #[derive(Clone, Copy)]
 struct Gates {
     weekday: u32,

@@ -1,10 +1,11 @@
 -- `bids::place_bid` meets its contract.
 -- Assumes nothing.
+use Rattle.cells.proofs.Views.{lent_cells}
 use Rattle.bids.proofs.Placing.{entry_same, placed}
 use Rattle.bids.proofs.place_bid.Goals as goal
 
-pub book_right-number-requires : goal.book_right-number-requires
-book_right-number-requires c = rw c.key.ensures (entry_same c.requires c.cells_in.ensures c.grant_hours.ensures)
+pub take_mw-number-requires : goal.take_mw-number-requires
+take_mw-number-requires c = entry_same c.requires (lent_cells c.told-book c.fits-book) c.grant_hours.ensures
 
 pub returns : goal.returns
-returns c = placed c.requires c.cells_in.ensures c.grant_hours.ensures (rw c.key.ensures at c.book_right-number.ensures) c.set_clock.ensures
+returns c = placed c.requires (lent_cells c.told-book c.fits-book) c.grant_hours.ensures c.take_mw-number.ensures c.set_clock.ensures

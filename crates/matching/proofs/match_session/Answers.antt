@@ -9,4 +9,4 @@ pub returns-in_err-match_verdict : goal.returns-in_err-match_verdict
 returns-in_err-match_verdict c = let p = err_from_is_err_and c.from_residual.result c.from_residual.ensures.1 in rw (p.1, p.2) (refused _ _ _ c.in_err-match_verdict.ensures)
 
 pub returns : goal.returns
-returns c = match_answers _ _ _ _ _ _ c.in_ok-match_verdict.ensures c.place_match.ensures
+returns c = match_answers _ _ _ _ c.in_ok-match_verdict.ensures c.place_match.ensures

@@ -5,5 +5,4 @@ use borrow.Author.Rules.{rules}
 use Rattle.nominations.proofs.place_nomination.Goals as goal
 
 pub returns : goal.returns
-returns c = let key = c.key_of.ensures in
-    placed _ c.args.call c.args.entry c.requires (search rules) _ _ _ _ _ _ key.out key.into (rw key.right at c.take_pair-pair.ensures) c.write_side.ensures c.set_clock.ensures _ c.marks.ensures
+returns c = placed _ c.args.call c.args.entry c.requires (search rules) _ _ _ _ (rw c.key_of.ensures at c.take_pair-pair.ensures) c.write_side.ensures c.set_clock.ensures _ c.marks.ensures

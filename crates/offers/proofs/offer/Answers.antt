@@ -2,13 +2,11 @@
 -- Assumes nothing.
 use Rattle.std.proofs.lemmas.Result.{err_from_is_err_and}
 use Rattle.answers.proofs.Laws.{refused}
-use Rattle.offers.proofs.Offers.{offers, offer_answers}
+use Rattle.offers.proofs.Offers.{offer_answers}
 use Rattle.offers.proofs.offer.Goals as goal
 
 pub returns-in_err-place : goal.returns-in_err-place
 returns-in_err-place c = let p = err_from_is_err_and c.from_residual.result c.from_residual.ensures.1 in rw (p.1, p.2) (refused _ _ _ c.in_err-place.ensures)
 
 pub returns : goal.returns
-returns c = let clear = c.in_ok-place.ensures in
-    offer_answers _ _ (offers c.args.call.capacity c.args.call.time c.args.call.hour.0 c.args.call.mw) (rw (← clear.row, ← clear.hour) c.in_ok-place.place.in_tables) clear.clear
-    (rw (clear.row, clear.hour) at c.place_offer.ensures)
+returns c = offer_answers _ _ _ _ c.in_ok-place.place.in_tables c.in_ok-place.ensures c.place_offer.ensures

@@ -5,9 +5,9 @@ use Rattle.std.proofs.lemmas.Result.{err_from_is_err_and}
 use Rattle.rules.specs.Refusals.{hour_unknown, timing_of}
 use Rattle.cells.specs.View.{book_of}
 use Rattle.answers.specs.Capacities.{Finds, capacity_unknown}
-use Rattle.answers.proofs.Laws.{Left, window_refused, window_passed, none_left}
+use Rattle.answers.proofs.Laws.{Left, refused_with, window_refused, window_passed, none_left}
 use Rattle.offers.specs.Work.{offer_call}
-use Rattle.offers.proofs.Offers.{field_refused, clock_refused, unknown_refused, known, timing_is, found_or, none_or}
+use Rattle.offers.proofs.Offers.{field_refused, clock_refused, unknown_refused, known, timing_is}
 use Rattle.offers.proofs.offer_verdict.Goals.{After-window_verdict}
 use Rattle.offers.proofs.offer_verdict.Goals as goal
 
@@ -19,26 +19,26 @@ returns-then-before_clock c = clock_refused _ c.args.call.capacity _ _ _ (sym c.
 
 pub returns-in_err-place : goal.returns-in_err-place
 returns-in_err-place c = let p = err_from_is_err_and c.from_residual.result c.from_residual.ensures.1 in
-    let none = none_or _ _ _ c.in_err-place.ensures.value in
-    let missing : (capacity_unknown (book_of c.args.book.now) c.args.call.capacity || hour_unknown (book_of c.args.book.now) c.args.call.hour.0) ≡ true = rw none.0 at c.place_in.ensures in
-    rw (p.1, p.2, none.1) (unknown_refused _ c.args.call.capacity _ _ _ (sym c.if-offer_field.ensures) (sym c.if-before_clock.ensures) missing)
+    let none = c.in_err-place.ensures in
+    let missing : (capacity_unknown (book_of c.args.book.now) c.args.call.capacity || hour_unknown (book_of c.args.book.now) c.args.call.hour.0) ≡ true = rw none.ok_part at c.place_in.ensures in
+    rw (p.1, p.2, refused_with _ _ _ none.value none.ok_part) (unknown_refused _ c.args.call.capacity _ _ _ (sym c.if-offer_field.ensures) (sym c.if-before_clock.ensures) missing)
 
 pub returns-in_err-model : goal.returns-in_err-model
 returns-in_err-model c = let p = err_from_is_err_and c.from_residual-in_err-model.result c.from_residual-in_err-model.ensures.1 in
-    let none = none_or _ _ _ c.in_err-model.ensures.value in
-    let missing : capacity_unknown (book_of c.args.book.now) c.args.call.capacity ≡ true = rw none.0 at c.model_of.ensures in
-    rw (p.1, p.2, none.1) (unknown_refused _ c.args.call.capacity _ _ _ (sym c.if-offer_field.ensures) (sym c.if-before_clock.ensures) (rw missing))
+    let none = c.in_err-model.ensures in
+    let missing : capacity_unknown (book_of c.args.book.now) c.args.call.capacity ≡ true = rw none.ok_part at c.model_of.ensures in
+    rw (p.1, p.2, refused_with _ _ _ none.value none.ok_part) (unknown_refused _ c.args.call.capacity _ _ _ (sym c.if-offer_field.ensures) (sym c.if-before_clock.ensures) (rw missing))
 
 -- up to the window
 there : (c : After-window_verdict) → Finds (book_of c.args.book.now) c.args.call.capacity c.args.call.hour (Some c.in_ok-place.place)
-there c = rw (found_or _ _ _ c.in_ok-place.ensures.value) at c.place_in.ensures
+there c = rw c.in_ok-place.ensures.ok_part at c.place_in.ensures
 
 left : (c : After-window_verdict) → Left (book_of c.args.book.now) (offer_call c.args.call) (16 ∷ 8 ∷ [])
 left c = known _ c.args.call.capacity _ _ _ (sym c.if-offer_field.ensures) (sym c.if-before_clock.ensures) (there c).0
 
 at : (c : After-window_verdict) → c.offer_timing.result ≡ timing_of (book_of c.args.book.now) (offer_call c.args.call)
 unfolding book_of
-at c = let found = rw (found_or _ _ _ c.in_ok-model.ensures.value) at c.model_of.ensures in
+at c = let found = rw c.in_ok-model.ensures.ok_part at c.model_of.ensures in
     rw (c.day-day.ensures.hours, c.day-day.ensures.weekday, found) at c.offer_timing.ensures ∙ timing_is (book_of c.args.book.now) c.args.call.capacity c.args.call.time c.args.call.hour.0 c.args.call.mw
 
 pub returns-in_err-window_verdict : goal.returns-in_err-window_verdict

@@ -1,5 +1,6 @@
 -- `parties::add_party` meets its contract.
 -- Assumes nothing.
+use Rattle.cells.proofs.Views.{lent_cells}
 use Rattle.std.proofs.Common.{rules}
 use Rattle.std.proofs.lemmas.Result.{err_from_is_err_and}
 use Rattle.answers.proofs.Laws.{refused}
@@ -10,7 +11,7 @@ pub returns-in_err-party_verdict : goal.returns-in_err-party_verdict
 returns-in_err-party_verdict c = let p = err_from_is_err_and c.from_residual.result c.from_residual.ensures.1 in rw (p.1, p.2) (refused _ _ _ c.in_err-party_verdict.ensures)
 
 pub add_row-requires : goal.add_row-requires
-add_row-requires c = let l = room (adds_party _ _ _ _ (search rules) c.party_row-row.ensures) c.in_ok-party_verdict.ensures in search rules
+add_row-requires c = let l = room (adds_party _ _ _ _ (search rules) c.row.ensures) c.in_ok-party_verdict.ensures in search rules
 
 pub returns : goal.returns
-returns c = answers_number (adds_party _ _ _ _ (search rules) c.party_row-row.ensures) c.in_ok-party_verdict.ensures c.cells_in.ensures c.add_row.ensures.number c.add_row.ensures.cells
+returns c = answers_number (adds_party _ _ _ _ (search rules) c.row.ensures) c.in_ok-party_verdict.ensures (lent_cells c.told-book c.fits-book) c.add_row.ensures.number c.add_row.ensures.cells

@@ -2,6 +2,7 @@
 -- Assumes nothing.
 use Rattle.std.proofs.Common.{rules}
 use Rattle.std.proofs.lemmas.Result.{err_from_is_err_and}
+use Rattle.cells.proofs.Views.{lent_cells}
 use Rattle.answers.proofs.Laws.{refused}
 use Rattle.setup.proofs.Adding.{adds_direction_lem, room, answers_number}
 use Rattle.setup.proofs.add_direction.Goals as goal
@@ -13,4 +14,4 @@ pub add_row-requires : goal.add_row-requires
 add_row-requires c = let l = room (adds_direction_lem _ _ _ _) c.in_ok-direction_verdict.ensures in search rules
 
 pub returns : goal.returns
-returns c = answers_number (adds_direction_lem _ _ _ _) c.in_ok-direction_verdict.ensures c.cells_in.ensures c.add_row.ensures.number c.add_row.ensures.cells
+returns c = answers_number (adds_direction_lem _ _ _ _) c.in_ok-direction_verdict.ensures (lent_cells c.told-book c.fits-book) c.add_row.ensures.number c.add_row.ensures.cells

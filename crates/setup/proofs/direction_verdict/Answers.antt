@@ -1,4 +1,5 @@
 -- `setup::direction_verdict` meets its contract: test by test, what is left to test.
+-- It reads like those of the other additions: it cites what is named after this function, which a shared law can't take over.
 -- Assumes nothing.
 use mathlib.Core.Path.{refl, sym, ◌∙◌}
 use Rattle.rules.specs.Refusals.{refuses, field, setup_shut, taken}

@@ -12,4 +12,4 @@ by_date (Some s) d hours weekday e = rw e
 
 pub returns : goal.returns
 unfolding emptied
-returns c = by_date c.args.date c.unwrap_or-year.result c.args.hours c.args.weekday c.unwrap_or-year.ensures
+returns c = by_date c.args.date c.unwrap_or-date.result c.args.day.hours c.args.day.weekday c.unwrap_or-date.ensures
