@@ -1,16 +1,16 @@
 -- A chain of promises is the run of the rules, so demand 3 holds of it.
 -- Assumes nothing.
-use Rattle.std.specs.Prelude.{Result}
+use Rattle.std.specs.Prelude.{Result, sum, get_or}
 use Prim.Native.Nat.{ℕ}
-use mathlib.Core.Path.{◌≡◌, refl, sym, ap, ◌∙◌}
-use mathlib.Core.List.{List, [], ◌∷◌, map}
+use mathlib.Core.Path.{◌≡◌, refl, sym, ap, ◌∙◌, fun_ext}
+use mathlib.Core.List.{List, ◌∷◌, map}
 use Rattle.rules.specs.Book.{Book}
 use Rattle.rules.specs.Calls.{Call, Reply}
 use Rattle.rules.specs.Said.{Answer, said}
 use Rattle.rules.specs.Run.{Run, run}
 use Rattle.rules.specs.Opening.{opening}
 use Rattle.rules.specs.Reads.{ConfirmedReply, read_confirmed}
-use Rattle.rules.specs.History.{Key}
+use Rattle.rules.specs.History.{Key, pairs_under}
 use Rattle.rules.specs.Demand3.{confirmed_total}
 use Rattle.rules.specs.declared.Refusal.{Refusal}
 use Rattle.rules.proofs.Demand.{demand3}
@@ -46,9 +46,8 @@ mw_read p = ap (λ (y : ConfirmedReply). y.mw) p.reply
 
 sum_read : (last : List ℕ) (k r : ℕ) (reads : Key → Result (List ℕ) Refusal) → ((x : Key) → ReadsConfirmed last x.right x.out x.into (reads x))
     → (ks : List Key) → confirmed_sum reads k r ks ≡ confirmed_total (book_of last) k r ks
-unfolding confirmed_sum confirmed_total
-sum_read last k r reads p [] = refl
-sum_read last k r reads p (x ∷ ks) = rw (mw_read (p x), sum_read last k r reads p ks)
+sum_read last k r reads p ks =
+    ap (λ (f : Key → ℕ). sum (map f (pairs_under r ks))) (fun_ext (λ (x : Key). ap (λ (mw : List ℕ). get_or mw k 0) (mw_read (p x))))
 
 -- demand 3 for the program
 pub program_demand3 : ProgramDemand3
@@ -72,6 +71,8 @@ program_demand3 year month date r first last cs rs o k =
       within_right = λ e h reads p. rw (sum_read last h e reads p) (rw (f.replies, f.book) at (d.within_right e h));
       within_out = λ e o' i h x p. rw (mw_read p) (rw (f.replies, f.book) at (d.within_out e o' i h));
       within_into = λ e o' i h x p. rw (mw_read p) (rw (f.replies, f.book) at (d.within_into e o' i h));
+      rounded_down = λ e o' i h x p. rw (f.replies, f.book, ← mw_read p) at (d.rounded_down e o' i h);
+      little_lost = λ e h reads p. rw (sum_read last h e reads p) (rw (f.replies, f.book) at (d.little_lost e h));
       without_refused = λ rs' last' k'.
           let g = follows_opened o k' in
           (sym g.replies ∙ ap (λ (x : Run). x.replies) w, sym g.book ∙ ap (λ (x : Run). x.book) w);

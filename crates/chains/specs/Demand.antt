@@ -1,15 +1,16 @@
 -- Demand 3 for the program, as one claim about a chain of calls on the cells that an opening left.
 -- Left of each equation stands what a read that is asked after the chain answers, right of it what the day, the calls and their answers give, never the book.
 -- Assumes nothing.
-use Rattle.std.specs.Prelude.{ℕ, ◌+◌, ◌≤◌, ◌<◌, ◌≡◌, if◌then◌else◌, List, [], ◌∷◌, ◌++◌, map, ◌==◌, length, get_or, Result}
+use Rattle.std.specs.Prelude.{ℕ, ◌+◌, ◌-◌, ◌≤◌, ◌<◌, ◌≡◌, true, List, [], ◌∷◌, ◌++◌, map, sum, length, get_or, Result}
 use Rattle.rules.specs.Basics.{no_mw}
 use Rattle.rules.specs.Book.{Day, Direction, Right, of_profile, right}
 use Rattle.rules.specs.Calls.{Call, Bid}
 use Rattle.rules.specs.Said.{Answer, said}
 use Rattle.rules.specs.Opening.{opened_day}
-use Rattle.rules.specs.History.{Key, granted_calls, grants, directions_of, profiles_of, last_offer, granted_mw, left_mw, shortfall_mw, rights_from, right_sum, pairs_from, last_side, confirmed_by}
+use Rattle.rules.specs.History.{Key, granted_calls, grants, directions_of, profiles_of, last_offer, granted_mw, left_mw, shortfall_mw, rights_from, right_sum, has_key, pairs_from, pairs_under, last_side, lower_mw, lower_values, lower_sum, confirmed_by}
+use Rattle.rules.specs.Rounding.{RoundedDown, count_above_zero}
 use Rattle.rules.specs.Days.{KnownDay}
-use Rattle.rules.specs.Demand3.{left_by, right_reply, BidFits}
+use Rattle.rules.specs.Demand3.{left_by, right_reply, BidFits, ProRata}
 use Rattle.rules.specs.declared.Refusal.{Refusal}
 use Rattle.cells.specs.View.{book_of}
 use Rattle.answers.specs.declared.LeftRead.{LeftRead}
@@ -18,9 +19,8 @@ use Rattle.answers.specs.Promises.{Opens, ReadsDirection, ReadsProfile, ReadsRig
 use Rattle.chains.specs.Chains.{Chain}
 
 -- what these reads answer in hour k of the session, for all the pairs under right r together
-unfoldable pub confirmed_sum : (Key → Result (List ℕ) Refusal) → ℕ → ℕ → List Key → ℕ
-confirmed_sum reads k r [] = 0
-confirmed_sum reads k r (x ∷ xs) = (if x.right == r then get_or (said_confirmed (reads x)).mw k 0 else 0) + confirmed_sum reads k r xs
+abbrev pub confirmed_sum : (Key → Result (List ℕ) Refusal) → ℕ → ℕ → List Key → ℕ
+confirmed_sum reads k r ks = sum (map (λ x. get_or (said_confirmed (reads x)).mw k 0) (pairs_under r ks))
 
 -- over the opening's day, the cells that it left, the calls with their answers, and the cells that the last call left
 module _ (day : Day) (first : List ℕ) (cs : List Call) (rs : List Answer) (last : List ℕ) where
@@ -79,6 +79,14 @@ module _ (day : Day) (first : List ℕ) (cs : List Call) (rs : List Answer) (las
         → confirmed_sum reads k r (pairs_from [] granted) ≤ get_or (right rights r).mw k 0
     pub within_out : (r o i k : ℕ) (x : Result (List ℕ) Refusal) → ReadsConfirmed last r o i x → get_or (said_confirmed x).mw k 0 ≤ get_or (last_side r o i 0 no_mw granted) k 0
     pub within_into : (r o i k : ℕ) (x : Result (List ℕ) Refusal) → ReadsConfirmed last r o i x → get_or (said_confirmed x).mw k 0 ≤ get_or (last_side r o i 1 no_mw granted) k 0
+    -- 02, S-4, where confirmed MW are pro rata: c × T ≤ m × R < (c + 1) × T for each pair; together they fall short of R by less than the number of pairs
+    -- whose m is above 0
+    pub rounded_down : (r o i k : ℕ) (x : Result (List ℕ) Refusal) → ReadsConfirmed last r o i x → ProRata rights granted r k
+        → has_key r o i (pairs_from [] granted) ≡ true
+        → RoundedDown (get_or (right rights r).mw k 0) (lower_sum granted k r) (lower_mw granted k r o i) (get_or (said_confirmed x).mw k 0)
+    pub little_lost : (r k : ℕ) (reads : Key → Result (List ℕ) Refusal) → ((x : Key) → ReadsConfirmed last x.right x.out x.into (reads x))
+        → ProRata rights granted r k
+        → get_or (right rights r).mw k 0 - confirmed_sum reads k r (pairs_from [] granted) < count_above_zero (lower_values granted k r)
     -- the granted calls alone, on the same first cells: the same answers, and the same book
     pub without_refused : (rs' : List Answer) (last' : List ℕ) → Chain first granted rs' last'
         → (map said rs' ≡ grants (map said rs)) × (book_of last' ≡ book_of last)

@@ -25,7 +25,7 @@ use Rattle.rules.proofs.Books.{limits}
 use Rattle.rules.proofs.Capacity.{Balance, balance_run, day_run, directions_run, profiles_run, sound_run}
 use Rattle.rules.proofs.BidsFit.{bids_fit}
 use Rattle.rules.proofs.Rights.{rights, right_sums}
-use Rattle.rules.proofs.Matching.{confirmed_read, within_right, within_out, within_into}
+use Rattle.rules.proofs.Matching.{confirmed_read, within_right, within_out, within_into, rounded_down, little_lost}
 
 -- ---- the reads of what is left, and of a right
 
@@ -122,6 +122,8 @@ module _ (day : Day) (known : KnownDay day) (cs : List Call) where
         within_right = within_right _ _ _ (confirmed_read day f t cs);
         within_out = within_out _ _ _ (confirmed_read day f t cs);
         within_into = within_into _ _ _ (confirmed_read day f t cs);
+        rounded_down = λ r o i k p. rounded_down _ _ _ (confirmed_read day f t cs) r k p o i;
+        little_lost = λ r k p. little_lost _ _ _ (confirmed_read day f t cs) r k p;
         without_refused = struck (opened day) cs;
         limits = limits end (sound_run day cs f t);
       }

@@ -1,4 +1,5 @@
 pub mod Bools
+pub mod Sums
 pub mod Days
 pub mod Above
 pub mod Listed
@@ -16,6 +17,7 @@ pub mod BidsFit
 pub mod Rights
 pub mod Pairs
 pub mod Matched
+pub mod Rounding
 pub mod Matching
 pub mod Demand
 pub mod Cases

@@ -1,14 +1,16 @@
 -- Demand 3, confirmed MW: the read answers what the granted calls give, and these MW never exceed a side, nor together the right.
 -- Assumes nothing.
-use Prim.Native.Nat.{ℕ, zero, suc, ◌+◌, ◌*◌, ◌≤◌, ◌<◌, zero-le}
-use mathlib.Core.Path.{◌≡◌, refl, ap, ◌∙◌}
+use Rattle.std.specs.Prelude.{sum}
+use Rattle.std.proofs.lemmas.Simd.{map-map}
+use Prim.Native.Nat.{ℕ, zero, suc, ◌-◌, ◌≤◌, ◌<◌, zero-le}
+use mathlib.Core.Path.{◌≡◌, refl, sym, ap, ◌∙◌}
 use mathlib.Core.Bool.{Bool, true, false, cond, ◌||◌, not}
-use mathlib.Core.List.{List, [], ◌∷◌}
-use native.Mathlib.Nat.{le_refl, le_trans, le_of_eq, le_of_lt, div-mul-le_self, mul-le-mul_left, mul-le-mul_right, add-le-add, div-le_of_le-mul, le_of_mul-le-mul_right, min-le_left, min-le_right}
+use mathlib.Core.List.{List, [], ◌∷◌, map}
+use native.Mathlib.Nat.{le_refl, le_trans, le_of_eq, add-le-add, min-le_left, min-le_right}
 use native.Mathlib.Omega.{arith}
-use lib.Dec.{eqb, leb, ltb}
+use lib.Dec.{eqb, leb}
 use lib.ListN.{length, get_or}
-use borrow.Author.Tests.{eqb-true, leb-false, ltb-true, ltb-false, lt-ltb}
+use borrow.Author.Tests.{eqb-true, eq-eqb, leb-false, lt-leb}
 use Rattle.rules.specs.Basics.{no_mw, five}
 use Rattle.rules.specs.Book.{Day, Right, Pair, Book, right, opened}
 use Rattle.rules.specs.Calls.{Call}
@@ -16,9 +18,12 @@ use Rattle.rules.specs.Nominations.{is_pair_of, pair_taken, pair_of, confirmed_o
 use Rattle.rules.specs.Refusals.{order, first_of, is_matched}
 use Rattle.rules.specs.Run.{run}
 use Rattle.rules.specs.Reads.{confirmed_reply, confirmed_read_refuses, read_confirmed}
-use Rattle.rules.specs.History.{Key, has_key, directions_of, rights_from, pairs_from, last_side, was_matched, lower_mw, lower_sum, confirmed_mw, confirmed_number, confirmed_by}
-use Rattle.rules.specs.Demand3.{confirmed_in, confirmed_total}
-use Rattle.rules.proofs.Bools.{and_left}
+use Rattle.rules.specs.History.{Key, is_key, has_key, directions_of, rights_from, pairs_from, last_side, was_matched, lower_mw, pairs_under, lower_values, lower_sum, confirmed_mw, confirmed_number, confirmed_by}
+use Rattle.rules.specs.Rounding.{RoundedDown, count_above_zero, confirmed_list}
+use Rattle.rules.specs.Demand3.{confirmed_in, confirmed_total, ProRata}
+use Rattle.rules.proofs.Bools.{and_left, or-true}
+use Rattle.rules.proofs.Sums.{sum_more}
+use Rattle.rules.proofs.Rounding.{confirmed_le, confirmed_rounded, sum_within, sum_little_lost}
 use Rattle.rules.proofs.Histories.{history, run_follows}
 use Rattle.rules.proofs.Rights.{rights}
 use Rattle.rules.proofs.Pairs.{has_key_lem, keys, lower_is, lower_total_lem}
@@ -88,25 +93,9 @@ module _ (day : Day) (f : 23 ≤ day.hours) (t : day.hours ≤ 25) (cs : List Ca
   unfolding read_confirmed confirmed_by
   confirmed_read r o i = rw (number_same r o i) (ap (confirmed_reply (confirmed_number rs gs r o i)) (five_same _ _ (mw_is r o i)))
 
--- ---- one pair
+-- ---- what a read answers
 
-pub confirmed_le : (R T m : ℕ) → confirmed_of R T m ≤ m
-unfolding confirmed_of
-confirmed_le R T m = go (ltb R T) refl
-  where
-    go : (t : Bool) → ltb R T ≡ t → confirmed_of R T m ≤ m
-    go true e = rw (e, confirmed_of) (div-le_of_le-mul T (omega (arith, mul-le-mul_left m (le_of_lt (ltb-true R T e)))))
-    go false e = rw (e, confirmed_of) (le_refl m)
-
--- rounding down loses and never gains
-rounded : (R T m : ℕ) → R < T → confirmed_of R T m * T ≤ m * R
-unfolding confirmed_of
-rounded R T m h = rw (lt-ltb R T h) (div-mul-le_self (m * R) T)
-
-joined : (c s t m l u : ℕ) → c * t ≤ m * u → s * t ≤ l * u → (c + s) * t ≤ (m + l) * u
-joined c s t m l u p q = omega arith
-
--- what a read answers in hour k, refused or not
+-- in hour k, refused or not
 reply_le : (number : ℕ) (g : ℕ → ℕ) (k : ℕ) → get_or (confirmed_reply number (five g)).mw k 0 ≤ g k
 reply_le number g k = go (eqb number 0) k
   where
@@ -123,6 +112,30 @@ reply_le number g k = go (eqb number 0) k
     go false (suc (suc (suc zero))) = zero-le
     go false (suc (suc (suc (suc zero)))) = zero-le
     go false (suc (suc (suc (suc (suc k))))) = zero-le
+
+-- the first five are those of the hours
+reply_is : (g : ℕ → ℕ) (k : ℕ) → k < 5 → get_or (confirmed_reply 0 (five g)).mw k 0 ≡ g k
+reply_is g zero h = refl
+reply_is g (suc zero) h = refl
+reply_is g (suc (suc zero)) h = refl
+reply_is g (suc (suc (suc zero))) h = refl
+reply_is g (suc (suc (suc (suc zero)))) h = refl
+reply_is g (suc (suc (suc (suc (suc k))))) h = absurd (omega (arith, h))
+
+-- sums over the pairs of right r
+sums_le : (f g : Key → ℕ) (r : ℕ) (xs : List Key) → ((x : Key) → x.right ≡ r → has_key r x.out x.into xs ≡ true → f x ≤ g x)
+    → sum (map f (pairs_under r xs)) ≤ sum (map g (pairs_under r xs))
+unfolding has_key is_key
+sums_le f g r [] each = zero-le
+sums_le f g r (x ∷ xs) each =
+    go (eqb x.right r) refl (sums_le f g r xs (λ y e h. each y e (rw h (or-true (is_key r y.out y.into x)))))
+  where
+    go : (t : Bool) → eqb x.right r ≡ t → sum (map f (pairs_under r xs)) ≤ sum (map g (pairs_under r xs))
+        → sum (map f (cond t (x ∷ pairs_under r xs) (pairs_under r xs))) ≤ sum (map g (cond t (x ∷ pairs_under r xs) (pairs_under r xs)))
+    go true e rest =
+        rw (sum_more (f x) (map f (pairs_under r xs)), sum_more (g x) (map g (pairs_under r xs)))
+        (add-le-add (each x (eqb-true x.right r e) (rw (e, eq-eqb x.out x.out refl, eq-eqb x.into x.into refl) refl)) rest)
+    go false e rest = rest
 
 -- ---- a book whose reads of confirmed MW are those of the rights rs and the granted calls gs
 
@@ -144,41 +157,45 @@ module _ (b : Book) (rs : List Right) (gs : List Call) (reads : (r o i : ℕ) �
     abbrev R : ℕ
     R = get_or (right rs r).mw k 0
 
-    abbrev Total : ℕ
-    Total = lower_sum gs k r (pairs_from [] gs)
+    abbrev T : ℕ
+    T = lower_sum gs k r
+
+    abbrev read_of : Key → ℕ
+    read_of x = confirmed_in b k x.right x.out x.into
+
+    abbrev lower_of : Key → ℕ
+    lower_of x = lower_mw gs k x.right x.out x.into
+
+    abbrev by_rule : Key → ℕ
+    by_rule x = confirmed_of R T (lower_of x)
+
+    list_is : sum (confirmed_list R (lower_values gs k r)) ≡ sum (map by_rule (pairs_under r (pairs_from [] gs)))
+    list_is = ap sum (map-map (λ m. confirmed_of R T m) lower_of (pairs_under r (pairs_from [] gs)))
 
     -- a pair of this right
-    one_le : (x : Key) → x.right ≡ r → confirmed_in b k x.right x.out x.into ≤ confirmed_of R Total (lower_mw gs k x.right x.out x.into)
+    one_le : (x : Key) → x.right ≡ r → read_of x ≤ by_rule x
     one_le x e =
         le_trans (read_le k x.right x.out x.into)
-        (le_of_eq (ap (λ (y : ℕ). confirmed_of (get_or (right rs y).mw k 0) (lower_sum gs k y (pairs_from [] gs)) (lower_mw gs k x.right x.out x.into)) e))
-
-    scaled : R < Total → (xs : List Key) → confirmed_total b k r xs * Total ≤ lower_sum gs k r xs * R
-    unfolding confirmed_total lower_sum
-    scaled h [] = omega arith
-    scaled h (x ∷ xs) = go (eqb x.right r) refl (scaled h xs)
-      where
-        go : (t : Bool) → eqb x.right r ≡ t → confirmed_total b k r xs * Total ≤ lower_sum gs k r xs * R
-            → confirmed_total b k r (x ∷ xs) * Total ≤ lower_sum gs k r (x ∷ xs) * R
-        go true e rest =
-            rw e (joined _ _ Total _ _ R (le_trans (mul-le-mul_right Total (one_le x (eqb-true x.right r e))) (rounded R Total _ h)) rest)
-        go false e rest = rw e (omega arith)
-
-    plain : (xs : List Key) → confirmed_total b k r xs ≤ lower_sum gs k r xs
-    unfolding confirmed_total lower_sum
-    plain [] = zero-le
-    plain (x ∷ xs) = go (eqb x.right r) refl (plain xs)
-      where
-        go : (t : Bool) → eqb x.right r ≡ t → confirmed_total b k r xs ≤ lower_sum gs k r xs
-            → confirmed_total b k r (x ∷ xs) ≤ lower_sum gs k r (x ∷ xs)
-        go true e rest = rw e (add-le-add (lower_le k x.right x.out x.into) rest)
-        go false e rest = rw e (add-le-add zero-le rest)
+        (le_of_eq (ap (λ (y : ℕ). confirmed_of (get_or (right rs y).mw k 0) (lower_sum gs k y) (lower_of x)) e))
 
     pub within_right : confirmed_total b k r (pairs_from [] gs) ≤ R
-    within_right = go (ltb R Total) refl
-      where
-        go : (t : Bool) → ltb R Total ≡ t → confirmed_total b k r (pairs_from [] gs) ≤ R
-        go true e =
-            let h = ltb-true R Total e in
-            le_of_mul-le-mul_right {k = Total} (omega (arith, scaled h (pairs_from [] gs))) (omega arith)
-        go false e = le_trans (plain (pairs_from [] gs)) (ltb-false R Total e)
+    within_right = le_trans (sums_le read_of by_rule r (pairs_from [] gs) (λ x e h. one_le x e)) (rw list_is at (sum_within R (lower_values gs k r)))
+
+    -- 02, S-4
+    module _ (p : ProRata rs gs r k) where
+      -- each read is granted
+      granted_read : (o i : ℕ) → has_key r o i (pairs_from [] gs) ≡ true → confirmed_in b k r o i ≡ confirmed_of R T (lower_mw gs k r o i)
+      unfolding confirmed_by
+      granted_read o i h = rw (reads r o i, lt-leb (length rs) r p.there, h, p.matched) (reply_is (confirmed_mw rs gs r o i) k (omega (arith, p.hour)))
+
+      pub rounded_down : (o i : ℕ) → has_key r o i (pairs_from [] gs) ≡ true → RoundedDown R T (lower_mw gs k r o i) (confirmed_in b k r o i)
+      rounded_down o i h = rw (granted_read o i h) (confirmed_rounded R T (lower_mw gs k r o i) p.above)
+
+      one_ge : (x : Key) → x.right ≡ r → has_key r x.out x.into (pairs_from [] gs) ≡ true → by_rule x ≤ read_of x
+      one_ge x e h = rw e (le_of_eq (sym (granted_read x.out x.into h)))
+
+      pub little_lost : R - confirmed_total b k r (pairs_from [] gs) < count_above_zero (lower_values gs k r)
+      little_lost =
+          let all : sum (confirmed_list R (lower_values gs k r)) ≤ confirmed_total b k r (pairs_from [] gs) =
+          rw list_is (sums_le by_rule read_of r (pairs_from [] gs) one_ge) in
+          omega (arith, all, sum_little_lost R (lower_values gs k r) p.above)

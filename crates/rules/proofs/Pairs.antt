@@ -1,9 +1,10 @@
 -- Demand 3, nominations: each pair stands once, and each side has the MW of its last granted nomination.
 -- Assumes nothing.
+use Rattle.std.specs.Prelude.{sum}
 use Prim.Native.Nat.{ℕ, zero, suc, ◌+◌, ◌≤◌}
 use mathlib.Core.Path.{◌≡◌, refl, sym, ap, ◌∙◌, subst⁻¹}
 use mathlib.Core.Bool.{Bool, true, false, cond, ◌&&◌}
-use mathlib.Core.List.{List, [], ◌∷◌, ◌++◌}
+use mathlib.Core.List.{List, [], ◌∷◌, ◌++◌, map}
 use native.Mathlib.Omega.{arith}
 use lib.Dec.{eqb, ltb}
 use borrow.Author.Tests.{eqb-true, eqb-false, eq-eqb, ne_eqb, ltb-false}
@@ -15,8 +16,9 @@ use Rattle.rules.specs.Nominations.{out_of, into_of, is_pair_of, pair_taken, pai
 use Rattle.rules.specs.Refusals.{order, refuses, field}
 use Rattle.rules.specs.Effects.{pairs_after, effect}
 use Rattle.rules.specs.Run.{run}
-use Rattle.rules.specs.History.{Key, is_key, has_key, out_party, into_party, pairs_with, pairs_then, pairs_from, side_after, last_side, lower_mw, lower_sum}
+use Rattle.rules.specs.History.{Key, is_key, has_key, out_party, into_party, pairs_with, pairs_then, pairs_from, side_after, last_side, lower_mw, pairs_under, lower_sum}
 use Rattle.rules.proofs.Bools.{and_left, and_right, or_left, or_right}
+use Rattle.rules.proofs.Sums.{sum_more}
 use Rattle.rules.proofs.Decisions.{Granted, fails}
 use Rattle.rules.proofs.Histories.{after, AllGranted, history, run_follows}
 
@@ -297,12 +299,19 @@ module _ (day : Day) (cs : List Call) where
   pub lower_is : (k r o i : ℕ) → lower k (pair_of r o i ps) ≡ lower_mw gs k r o i
   lower_is k r o i = rw (out_side_lem r o i, into_side_lem r o i)
 
-  total_is : (k r : ℕ) (qs : List Pair) → Own ps qs → lower_total r k qs ≡ lower_sum gs k r (keys_of qs)
-  unfolding lower_total lower_sum
-  total_is k r [] w = refl
-  total_is k r (x ∷ qs) w =
-      rw (total_is k r qs w.1)
-      (ap (λ (m : ℕ). cond (eqb x.right r) m 0 + lower_sum gs k r (keys_of qs)) (ap (lower k) (sym w.0) ∙ lower_is k x.right x.out x.into))
+  abbrev lower_of : ℕ → Key → ℕ
+  lower_of k x = lower_mw gs k x.right x.out x.into
 
-  pub lower_total_lem : (k r : ℕ) → lower_total r k ps ≡ lower_sum gs k r (pairs_from [] gs)
-  lower_total_lem k r = total_is k r ps owned ∙ ap (lower_sum gs k r) (keys day cs)
+  total_is : (k r : ℕ) (qs : List Pair) → Own ps qs → lower_total r k qs ≡ sum (map (lower_of k) (pairs_under r (keys_of qs)))
+  unfolding lower_total
+  total_is k r [] w = refl
+  total_is k r (x ∷ qs) w = go (eqb x.right r) (total_is k r qs w.1)
+    where
+      go : (t : Bool) → lower_total r k qs ≡ sum (map (lower_of k) (pairs_under r (keys_of qs)))
+          → cond t (lower k x) 0 + lower_total r k qs ≡ sum (map (lower_of k) (cond t (key_of x ∷ pairs_under r (keys_of qs)) (pairs_under r (keys_of qs))))
+      go true rest =
+          rw (sum_more (lower_of k (key_of x)) (map (lower_of k) (pairs_under r (keys_of qs))), ← rest, ← lower_is k x.right x.out x.into, w.0) refl
+      go false rest = omega (arith, rest)
+
+  pub lower_total_lem : (k r : ℕ) → lower_total r k ps ≡ lower_sum gs k r
+  lower_total_lem k r = total_is k r ps owned ∙ ap (λ ks. sum (map (lower_of k) (pairs_under r ks))) (keys day cs)

@@ -5,12 +5,15 @@ use Rattle.rules.specs.Calendar.{days_in}
 use Rattle.rules.specs.Sessions.{first_hour, hours_in}
 use Rattle.rules.specs.Windows.{bids_close, bid_timing, nomination_timing, offer_timing, matching_timing}
 use Rattle.rules.specs.Codes.{char_value, weighted_sum, is_code}
-use Rattle.rules.specs.Book.{BookDate, NoDate, On}
+use Rattle.rules.specs.Book.{BookDate, NoDate, On, right}
 use Rattle.rules.specs.Calls.{Call, AddDirection, AddProfile, AddParty, OfferDirection, OfferProfile, Bid, Nominate, Match, Reply}
 use Rattle.rules.specs.Run.{Step, Run, run}
 use Rattle.rules.specs.Opening.{opening}
 use Rattle.rules.specs.Reads.{LeftReply, read_direction, read_profile, read_confirmed}
 use Rattle.rules.specs.Records.{record_of, reading, fields_of, call_of}
+use Rattle.rules.specs.History.{granted_calls, directions_of, rights_from, pairs_from, lower_values, lower_sum}
+use Rattle.rules.specs.Rounding.{count_above_zero, confirmed_list}
+use Rattle.rules.specs.Demand3.{confirmed_total, ProRata}
 use Rattle.rules.specs.declared.CallRecord.{CallRecord}
 use Rattle.rules.specs.declared.Timing.{Timing}
 use Rattle.rules.specs.declared.Timing.TheVariants.{Early, Within, Late}
@@ -84,6 +87,10 @@ six_times x = x ∷ x ∷ x ∷ x ∷ x ∷ x ∷ []
 -- on Monday 1 June 2015
 unfoldable pub monday : List Call → Run
 monday cs = run (opening 2015 6 1).book cs
+
+-- on Sunday 25 October 2015, which has 25 hours
+unfoldable pub sunday : List Call → Run
+sunday cs = run (opening 2015 10 25).book cs
 
 -- ---- party codes
 
@@ -215,15 +222,54 @@ two_pairs =
     ∷ Nominate 1110 0 1 0 0 (one 60) ∷ Nominate 1110 1 0 0 1 (one 70)
     ∷ Match 1394 0 1 ∷ Match 1395 0 1 ∷ []
 
+-- both sides of a pair under a right, with the same MW
+abbrev both_sides : ℕ → ℕ → ℕ → List ℕ → List Call
+both_sides r out into mw = Nominate 1110 out into r 0 mw ∷ Nominate 1110 into out r 1 mw ∷ []
+
+-- right 0 with 100 MW in hour 1, held by party 0; its nominations; and the matching
+abbrev right_of_100 : List Call → List Call
+right_of_100 cs =
+    AddDirection 0 4 1 ∷ AddParty ceps 17 ∷ AddParty (uni 86) 17 ∷ OfferDirection 1000 0 1 100 ∷ Bid 1100 0 0 1 (one 100) ∷ (cs ++ (Match 1395 0 1 ∷ []))
+
 -- three pairs of 50 on both sides: with itself, with party 1, and of party 1 with party 0
 abbrev three_pairs : List Call
-three_pairs =
-    AddDirection 0 4 1 ∷ AddParty ceps 17 ∷ AddParty (uni 86) 17
-    ∷ OfferDirection 1000 0 1 100 ∷ Bid 1100 0 0 1 (one 100)
-    ∷ Nominate 1110 0 0 0 0 (one 50) ∷ Nominate 1110 0 0 0 1 (one 50)
-    ∷ Nominate 1110 0 1 0 0 (one 50) ∷ Nominate 1110 1 0 0 1 (one 50)
-    ∷ Nominate 1110 1 0 0 0 (one 50) ∷ Nominate 1110 0 1 0 1 (one 50)
-    ∷ Match 1395 0 1 ∷ []
+three_pairs = right_of_100 (both_sides 0 0 0 (one 50) ++ both_sides 0 0 1 (one 50) ++ both_sides 0 1 0 (one 50))
+
+-- one pair of 130
+abbrev one_pair : List Call
+one_pair = right_of_100 (both_sides 0 0 0 (one 130))
+
+-- m 70 and 80, and a pair whose in party sent nothing
+abbrev one_side_sent : List Call
+one_side_sent = right_of_100 (both_sides 0 0 0 (one 70) ++ both_sides 0 0 1 (one 80) ++ (Nominate 1110 1 0 0 0 (one 40) ∷ []))
+
+-- these MW in the fifth hour of a session, 0 in the others
+abbrev fifth : ℕ → List ℕ
+fifth mw = 0 ∷ 0 ∷ 0 ∷ 0 ∷ mw ∷ []
+
+-- session 1 of the four-hour model in its fifth hour: right 0 with a pair of 9, and right 1 with 98 MW and three pairs of 50
+abbrev two_rights : List Call
+two_rights =
+    AddDirection 0 4 4 ∷ AddParty ceps 17 ∷ AddParty (uni 86) 17 ∷ OfferDirection 1000 0 5 118 ∷ Bid 1100 0 0 1 (fifth 20) ∷ Bid 1100 1 0 1 (fifth 98)
+    ∷ (both_sides 0 0 0 (fifth 9) ++ both_sides 1 1 1 (fifth 50) ++ both_sides 1 1 0 (fifth 50) ++ both_sides 1 0 1 (fifth 50) ++ (Match 1395 0 1 ∷ []))
+
+-- of a right in hour k of its session, from 0, after calls on that Sunday: its MW, T, its confirmed MW together, what they fall short of it, and how many of
+-- its pairs have an m above 0
+abbrev lost_numbers : List Call → ℕ → ℕ → List ℕ
+lost_numbers cs r k =
+    let gs : List Call = granted_calls cs (sunday cs).replies in
+    let R : ℕ = get_or (right (rights_from (directions_of gs) [] gs) r).mw k 0 in
+    let c : ℕ = confirmed_total (sunday cs).book k r (pairs_from [] gs) in
+    R ∷ lower_sum gs k r ∷ c ∷ (R - c) ∷ count_above_zero (lower_values gs k r) ∷ []
+
+-- 02, S-4 is claimed of such a right and hour: its confirmed MW are pro rata
+abbrev IsProRata : List Call → ℕ → ℕ → Type 0
+IsProRata cs r k =
+    let gs : List Call = granted_calls cs (sunday cs).replies in
+    ProRata (rights_from (directions_of gs) [] gs) gs r k
+
+abbrev pub ProRataCases : Type 0
+ProRataCases = IsProRata two_pairs 0 0 × IsProRata three_pairs 0 0 × IsProRata one_pair 0 0 × IsProRata one_side_sent 0 0 × IsProRata two_rights 1 4
 
 -- time 1,100, party 2, direction 0, session 1, 50 MW
 unfoldable pub bid_record : CallRecord
@@ -403,4 +449,14 @@ cases =
       computed = (read_confirmed (monday three_pairs).book 0 0 0).mw ++ (read_confirmed (monday three_pairs).book 0 0 1).mw ++ (read_confirmed (monday three_pairs).book 0 1 0).mw;
       said = one 33 ++ one 33 ++ one 33;
     }
+    -- the same of lower values in a list
+    ∷ record { computed = confirmed_list 100 (90 ∷ 60 ∷ []) ++ confirmed_list 100 (50 ∷ 50 ∷ 50 ∷ []); said = 60 ∷ 40 ∷ 33 ∷ 33 ∷ 33 ∷ [] }
+    -- 02, S-4: these three pairs lose 1 of 100 MW, which is below 3; m 90, 60 lose nothing, nor does one pair alone above the right
+    ∷ record { computed = lost_numbers three_pairs 0 0; said = 100 ∷ 150 ∷ 99 ∷ 1 ∷ 3 ∷ [] }
+    ∷ record { computed = lost_numbers two_pairs 0 0; said = 100 ∷ 150 ∷ 100 ∷ 0 ∷ 2 ∷ [] }
+    ∷ record { computed = lost_numbers one_pair 0 0; said = 100 ∷ 130 ∷ 100 ∷ 0 ∷ 1 ∷ [] }
+    -- a pair with m 0 doesn't count: 1 MW is lost, which is below 2 pairs
+    ∷ record { computed = lost_numbers one_side_sent 0 0; said = 100 ∷ 150 ∷ 99 ∷ 1 ∷ 2 ∷ [] }
+    -- three pairs of 50 under 98 MW get 32 each and lose 2, which is below 3 and not below one fewer
+    ∷ record { computed = lost_numbers two_rights 1 4; said = 98 ∷ 150 ∷ 96 ∷ 2 ∷ 3 ∷ [] }
     ∷ []

@@ -1,7 +1,7 @@
 -- Demand 3 as one claim about a list of calls on the book that an opening returned.
 -- Left of each equation stands what the reads answer after the list, right of it what the day, the calls and their replies give.
 -- Assumes nothing.
-use Rattle.std.specs.Prelude.{ℕ, ◌+◌, ◌≤◌, ◌<◌, ◌≡◌, if◌then◌else◌, ◌||◌, List, [], ◌∷◌, ◌++◌, ◌==◌, nat_le, nat_lt, length, get_or}
+use Rattle.std.specs.Prelude.{ℕ, ◌+◌, ◌-◌, ◌≤◌, ◌<◌, ◌≡◌, if◌then◌else◌, ◌||◌, List, [], ◌∷◌, ◌++◌, map, sum, true, nat_le, nat_lt, length, get_or}
 use Rattle.rules.specs.Basics.{no_mw}
 use Rattle.rules.specs.Book.{Day, Direction, Right, Book, of_profile, right, direction_limit, pair_limit, party_limit, profile_limit, right_limit}
 use Rattle.rules.specs.Calls.{Call, Bid, no_details}
@@ -9,7 +9,8 @@ use Rattle.rules.specs.Run.{run}
 use Rattle.rules.specs.Opening.{opening, opened_day}
 use Rattle.rules.specs.Days.{KnownDay}
 use Rattle.rules.specs.Reads.{LeftReply, RightReply, read_direction, read_profile, read_right, read_confirmed}
-use Rattle.rules.specs.History.{Key, granted_calls, grants, directions_of, profiles_of, last_offer, bid_mw, granted_mw, left_mw, shortfall_mw, rights_from, right_sum, pairs_from, last_side, confirmed_by}
+use Rattle.rules.specs.History.{Key, granted_calls, grants, directions_of, profiles_of, last_offer, bid_mw, granted_mw, left_mw, shortfall_mw, rights_from, right_sum, has_key, pairs_from, pairs_under, last_side, was_matched, lower_mw, lower_values, lower_sum, confirmed_by}
+use Rattle.rules.specs.Rounding.{RoundedDown, count_above_zero}
 
 -- the read of direction or profile number x, one of `count`, in an hour of a day with n: what is left and the shortfall, or 6 and zeros where it or the
 -- hour is not there
@@ -21,19 +22,26 @@ left_by count n x hour left shortfall =
 abbrev pub right_reply : List Right → ℕ → RightReply
 right_reply rs r = record { reply = no_details (if nat_le (length rs) r then 6 else 0); right = right rs r }
 
--- what the reads answer in hour k of the session: the confirmed MW of a pair, and of all these pairs under right r together
+-- what the read answers in hour k of the session: the confirmed MW of a pair
 abbrev pub confirmed_in : Book → ℕ → ℕ → ℕ → ℕ → ℕ
 confirmed_in b k r o i = get_or (read_confirmed b r o i).mw k 0
 
-unfoldable pub confirmed_total : Book → ℕ → ℕ → List Key → ℕ
-confirmed_total b k r [] = 0
-confirmed_total b k r (x ∷ xs) = (if x.right == r then confirmed_in b k x.right x.out x.into else 0) + confirmed_total b k r xs
+-- the confirmed MW in that hour of all of these pairs under right r, together
+abbrev pub confirmed_total : Book → ℕ → ℕ → List Key → ℕ
+confirmed_total b k r ks = sum (map (λ x. confirmed_in b k x.right x.out x.into) (pairs_under r ks))
 
 -- a bid, by the granted calls before it: in each row and hour in which it takes MW, on its direction and on each profile that holds it, they give no
 -- shortfall (02, S-2), and its MW are within what they leave
 pub record BidFits (n : ℕ) (earlier : List Call) (bid : Call) : Type 0 where
   pub no_shortfall : (row hour : ℕ) → 0 < bid_mw n (directions_of earlier) (profiles_of earlier) row hour bid → shortfall_mw n earlier row hour ≡ 0
   pub within_left : (row hour : ℕ) → bid_mw n (directions_of earlier) (profiles_of earlier) row hour bid ≤ left_mw n earlier row hour
+
+-- confirmed MW are pro rata in hour k, from 0, of the session of right r: the session is matched, and in that hour T is above R (02, S-4)
+pub record ProRata (rs : List Right) (granted : List Call) (r k : ℕ) : Type 0 where
+  pub hour : k < 5
+  pub there : r < length rs
+  pub matched : was_matched (right rs r).direction (right rs r).session granted ≡ true
+  pub above : get_or (right rs r).mw k 0 < lower_sum granted k r
 
 -- the limits of the tables
 pub record WithinLimits (b : Book) : Type 0 where
@@ -96,6 +104,12 @@ module _ (b : Book) (day : Day) (cs : List Call) where
     pub within_right : (r k : ℕ) → confirmed_total (run b cs).book k r (pairs_from [] granted) ≤ get_or (right rights r).mw k 0
     pub within_out : (r o i k : ℕ) → confirmed_in (run b cs).book k r o i ≤ get_or (last_side r o i 0 no_mw granted) k 0
     pub within_into : (r o i k : ℕ) → confirmed_in (run b cs).book k r o i ≤ get_or (last_side r o i 1 no_mw granted) k 0
+    -- 02, S-4, where confirmed MW are pro rata: c × T ≤ m × R < (c + 1) × T for each pair; together they fall short of R by less than the number of pairs
+    -- whose m is above 0
+    pub rounded_down : (r o i k : ℕ) → ProRata rights granted r k → has_key r o i (pairs_from [] granted) ≡ true
+        → RoundedDown (get_or (right rights r).mw k 0) (lower_sum granted k r) (lower_mw granted k r o i) (confirmed_in (run b cs).book k r o i)
+    pub little_lost : (r k : ℕ) → ProRata rights granted r k
+        → get_or (right rights r).mw k 0 - confirmed_total (run b cs).book k r (pairs_from [] granted) < count_above_zero (lower_values granted k r)
     -- without the refused calls: the same replies to the others, and the same book
     pub without_refused : run b granted ≡ record { replies = grants (run b cs).replies; book = (run b cs).book }
     pub limits : WithinLimits (run b cs).book

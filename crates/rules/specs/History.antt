@@ -2,7 +2,7 @@
 -- Shared with the book's effects are the session rule (`first_hour`), the hour that a bid's MW belong to (`mw_at`), the rows that hold a direction (`holds`)
 -- and, where 01 says "by the rule above", confirmed MW (`confirmed_of`). Offers, rights, pairs, sides and matchings are written down a second time.
 -- Assumes nothing.
-use Rattle.std.specs.Prelude.{ℕ, ◌+◌, ◌-◌, min, Bool, false, if◌then◌else◌, ◌&&◌, ◌||◌, not, List, [], ◌∷◌, ◌++◌, ◌==◌, nat_le, get_or, length}
+use Rattle.std.specs.Prelude.{ℕ, ◌+◌, ◌-◌, min, Bool, false, if◌then◌else◌, ◌&&◌, ◌||◌, not, List, [], ◌∷◌, ◌++◌, map, filter, sum, ◌==◌, nat_le, get_or, length}
 use Rattle.rules.specs.Basics.{mw_at, no_mw, five}
 use Rattle.rules.specs.Sessions.{first_hour}
 use Rattle.rules.specs.Book.{Direction, Right, direction, right, of_profile, holds}
@@ -212,14 +212,21 @@ was_matched d s (c ∷ cs) = is_match_of d s c || was_matched d s cs
 abbrev pub lower_mw : List Call → ℕ → ℕ → ℕ → ℕ → ℕ
 lower_mw cs k r o i = min (get_or (last_side r o i 0 no_mw cs) k 0) (get_or (last_side r o i 1 no_mw cs) k 0)
 
--- T: the sum of m over the pairs of right r
-unfoldable pub lower_sum : List Call → ℕ → ℕ → List Key → ℕ
-lower_sum cs k r [] = 0
-lower_sum cs k r (x ∷ xs) = (if x.right == r then lower_mw cs k x.right x.out x.into else 0) + lower_sum cs k r xs
+-- of these pairs, those under right r
+abbrev pub pairs_under : ℕ → List Key → List Key
+pairs_under r ks = filter (λ x. x.right == r) ks
+
+-- m of each pair of right r, in the order of the pairs
+abbrev pub lower_values : List Call → ℕ → ℕ → List ℕ
+lower_values cs k r = map (λ x. lower_mw cs k x.right x.out x.into) (pairs_under r (pairs_from [] cs))
+
+-- T: their sum
+abbrev pub lower_sum : List Call → ℕ → ℕ → ℕ
+lower_sum cs k r = sum (lower_values cs k r)
 
 -- the confirmed MW of a pair follow from those rights and sides by the rule above
 abbrev pub confirmed_mw : List Right → List Call → ℕ → ℕ → ℕ → ℕ → ℕ
-confirmed_mw rs cs r o i k = confirmed_of (get_or (right rs r).mw k 0) (lower_sum cs k r (pairs_from [] cs)) (lower_mw cs k r o i)
+confirmed_mw rs cs r o i k = confirmed_of (get_or (right rs r).mw k 0) (lower_sum cs k r) (lower_mw cs k r o i)
 
 -- what the read of them answers: 6 where right or pair is not there, 12 before the matching
 abbrev pub confirmed_number : List Right → List Call → ℕ → ℕ → ℕ → ℕ

@@ -9,6 +9,7 @@ pub mod Said
 pub mod Setup
 pub mod Bids
 pub mod Nominations
+pub mod Rounding
 pub mod Sides
 pub mod Refusals
 pub mod Effects
