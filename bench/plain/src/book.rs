@@ -49,6 +49,7 @@ pub struct Left {
     pub shortfall: u32,
 }
 
+#[derive(Clone, Copy)]
 struct Direction {
     out: u8,
     into: u8,
@@ -59,6 +60,7 @@ struct Direction {
     matched: [bool; MOST_HOURS],
 }
 
+#[derive(Clone, Copy)]
 struct Profile {
     map: u32,
     capacity: [Capacity; MOST_HOURS],
@@ -70,6 +72,7 @@ impl Profile {
     }
 }
 
+#[derive(Clone, Copy)]
 struct Party {
     code: Code,
     access: u8,
@@ -89,6 +92,7 @@ pub struct Right {
     pub mw: [u32; 5],
 }
 
+#[derive(Clone, Copy)]
 struct Pair {
     right: u16,
     out: u8,
@@ -104,6 +108,7 @@ impl Pair {
     }
 }
 
+#[derive(Clone)]
 pub struct Book {
     day: Day,
     /// The time of the latest granted timed call.
@@ -157,6 +162,17 @@ impl Book {
             rights: Vec::with_capacity(MOST_RIGHTS),
             pairs: Vec::with_capacity(MOST_PAIRS),
         }
+    }
+
+    /// As the other book is, in the room that this one has.
+    pub fn put_back(&mut self, filled: &Book) {
+        self.day = filled.day;
+        self.clock = filled.clock;
+        self.directions.clone_from(&filled.directions);
+        self.profiles.clone_from(&filled.profiles);
+        self.parties.clone_from(&filled.parties);
+        self.rights.clone_from(&filled.rights);
+        self.pairs.clone_from(&filled.pairs);
     }
 
     fn is_shut(&self) -> bool {
@@ -297,9 +313,11 @@ impl Book {
     }
 
     /// The first hour that is short; in it the direction before the profiles, the lowest profile first.
+    /// The search ends after the last hour with MW: 0 MW are never short.
     fn shortage(&self, direction: u8, first: u8, mw: &[u16]) -> Option<(u8, CapacityOf)> {
         let own = &self.directions[usize::from(direction)].capacity;
-        for (hour, &asked) in (first..).zip(mw) {
+        let last = mw.iter().rposition(|&m| m > 0)?;
+        for (hour, &asked) in (first..).zip(&mw[..=last]) {
             let asked = u32::from(asked);
             if own[at(hour)].left() < asked {
                 return Some((hour, CapacityOf::Direction));

@@ -10,15 +10,18 @@ use std::ops::RangeInclusive;
 const MIXED_BIDS: u32 = 100_000;
 const STANDING_BIDS: u32 = 130_000;
 const REFUSED_BIDS: u32 = 400_000;
+const SINGLE_HOUR_BIDS: u32 = 100_000;
 const NOMINATIONS: u32 = 100_000;
 const CONFIRMED_READS: u32 = 100_000;
 const SHORT_READS: u32 = 20_000_000;
 
 /// The loads by name, in the order in which all of them are run.
-pub const LOADS: [(&str, fn() -> Sum); 9] = [
+pub const LOADS: [(&str, fn() -> Sum); 11] = [
     ("bids", bids),
     ("standing", standing),
     ("full", full),
+    ("one-hour", one_hour),
+    ("first-hour", first_hour),
     ("nominate-few", nominate_few),
     ("nominate-many", nominate_many),
     ("confirmed-few", confirmed_few),
@@ -216,6 +219,39 @@ fn full() -> Sum {
         sum.answer(book.bid(2300, (i % 64) as u8, 8, 6, [1, 1, 1, 1, 0]));
     }
     sum
+}
+
+/// Bids in rounds of 512, since there is room for as many rights: each round begins on the book as it was filled.
+fn rounds_of_bids(bid: impl Fn(&mut Book, u32) -> Answer) -> Sum {
+    let mut book = set_up(1, 1..=24, &mut Counts::default());
+    let filled = book.clone();
+    let mut sum = Sum::default();
+    for i in 0..SINGLE_HOUR_BIDS {
+        if i % 512 == 0 {
+            book.put_back(&filled);
+        }
+        sum.answer(bid(&mut book, i));
+    }
+    sum
+}
+
+/// Bids for 1 MW on directions with one-hour sessions, each of which opens a right.
+fn one_hour() -> Sum {
+    rounds_of_bids(|book, i| {
+        let session = (21 + i / 12 % 4) as u8;
+        book.bid(
+            2300,
+            (i % 64) as u8,
+            (i % 12) as u8,
+            session,
+            [1, 0, 0, 0, 0],
+        )
+    })
+}
+
+/// Bids for 1 MW in the first of four hours, all of one party, so that they add to 12 rights.
+fn first_hour() -> Sum {
+    rounds_of_bids(|book, i| book.bid(2300, 0, (12 + i % 12) as u8, 6, [1, 0, 0, 0, 0]))
 }
 
 /// Nominations that replace a side of one of 512 pairs.

@@ -5,15 +5,14 @@ use Prim.Native.Nat.{ℕ}
 use mathlib.Core.Path.{◌≡◌, refl, sym, ap, ◌∙◌}
 use mathlib.Core.Bool.{true, false, ◌||◌, not}
 use mathlib.Core.List.{List, [], ◌∷◌}
-use native.Mathlib.Omega.{arith}
 use native.Mathlib.Numerals.{one-add}
 use lib.Dec.{ltb}
-use lib.ListN.{length, drop}
+use lib.ListN.{take, drop}
 use Rattle.rules.specs.Basics.{bit, any_above}
 use Rattle.rules.specs.Windows.{latest, bid_timing}
 use Rattle.rules.specs.Book.{Book, model_of, Direction as RulesDirection}
 use Rattle.rules.specs.Said.{said_refusal}
-use Rattle.rules.specs.Bids.{Shortage, is_short}
+use Rattle.rules.specs.Bids.{Shortage, is_short, shortage}
 use Rattle.rules.specs.Details.{short_hour_of, short_capacity_of, refusal}
 use Rattle.rules.specs.Refusals.{order, first_of, setup_shut, taken, not_owner, cycle, refuses, field, clock, unknown, timing_of, wrong_hours, hours_lacking, no_access, full, shortage_of}
 use Rattle.rules.specs.declared.Hour.{Hour}
@@ -22,13 +21,12 @@ use Rattle.rules.specs.declared.CapacityOf.TheVariants.{Direction, Profile}
 use Rattle.rules.specs.declared.Refusal.{Refusal}
 use Rattle.rules.specs.declared.Refusal.TheVariants.{Field, Clock, Unknown, Hours, Access, Full, Short}
 use Rattle.rules.specs.declared.Timing.{Timing}
-use Rattle.rules.proofs.Above.{zeros_from}
 use Rattle.rules.proofs.Bools.{or_left}
+use Rattle.rules.proofs.Searches.{shortage_in_front}
 use Rattle.cells.specs.View.{book_of}
 use Rattle.answers.specs.Promises.{Refused, window_verdict}
 use Rattle.answers.proofs.Laws.{Left, pass, refuse, window_refused, window_passed, none_left}
-use Rattle.capacity.specs.Search.{shortage_in, found}
-use Rattle.capacity.proofs.View.{shortage_view}
+use Rattle.capacity.specs.Search.{as_shortage}
 use Rattle.rights.specs.Work.{entry_in}
 use Rattle.rights.proofs.Rights.{full_refused, full_passed, refused_full}
 use Rattle.bids.specs.declared.BidCall.{BidCall}
@@ -80,7 +78,7 @@ module _ (b : List ℕ) (call : BidCall) where
 
 -- ---- after the window
 
-short_said : (h : Hour) (l : CapacityOf) (s : Shortage) → found (Some (h, l)) ≡ s
+short_said : (h : Hour) (l : CapacityOf) (s : Shortage) → as_shortage (Some (h, l)) ≡ s
     → (is_short s ≡ true) × (said_refusal (Short h l) ≡ record { number = 15; first = short_hour_of s; second = short_capacity_of s })
 short_said h Direction s e = rw (← e) (refl, refl)
 short_said h (Profile p) s e = rw (← e) (refl, rw (one-add p))
@@ -120,31 +118,28 @@ module _ {b : List ℕ} {call : BidCall} {n : Named} (w : InWindow b call n) whe
       no_room e = rw (refused_full b (right_asked call n.direction.model) e)
           (refuse Full past_access (rw model_is at (full_refused b (right_asked call n.direction.model) e)) refl refl)
 
-      module _ {entry : Option ℕ} (e : Ok entry ≡ entry_in b (right_asked call n.direction.model))
-          {r : Option (Hour × CapacityOf)} (s : r ≡ shortage_in b n.hours.direction n.hours.first.0 n.hours.count call.mw) where
+      module _ {entry : Option ℕ} (e : Ok entry ≡ entry_in b (right_asked call n.direction.model)) where
         to_shortage : Left (book_of b) (bid_of call) (15 ∷ [])
         unfolding refuses full
         to_shortage = pass past_access (rw model_is at (full_passed b (right_asked call n.direction.model) e))
 
-        shortage_is : length call.mw ≡ 5 → found r ≡ shortage_of (book_of b) (bid_of call)
-        unfolding shortage_of
-        shortage_is size =
-            let inside = n.hours.inside in
-            let z = zeros_from n.hours.count call.mw (or_left _ (not (any_above 0 call.mw)) h) in
-            ap found s
-            ∙ shortage_view b n.hours.direction n.hours.first.0 n.hours.count call.mw (omega arith) z
-            ∙ rw (w.names.hours_are.direction_is, w.names.hours_are.first_is)
+        module _ (r : Option (Hour × CapacityOf)) (s : as_shortage r ≡ shortage (book_of b) n.hours.direction n.hours.first.0 (take n.hours.count call.mw)) where
+          shortage_is : as_shortage r ≡ shortage_of (book_of b) (bid_of call)
+          unfolding shortage_of
+          shortage_is =
+              s
+              ∙ shortage_in_front (book_of b) n.hours.direction n.hours.first.0 n.hours.count call.mw (or_left _ (not (any_above 0 call.mw)) h)
+              ∙ rw (w.names.hours_are.direction_is, w.names.hours_are.first_is)
 
-        module _ (size : length call.mw ≡ 5) where
           pub short : {hour : Hour} {of : CapacityOf} → r ≡ Some (hour, of) → Refused (book_of b) (bid_of call) (Short hour of)
           unfolding refuses refusal
-          short {hour} {of} q = let said = short_said hour of _ (rw q at (shortage_is size)) in refuse (Short hour of) to_shortage said.0 refl said.1
+          short {hour} {of} q = let said = short_said hour of _ (rw q at shortage_is) in refuse (Short hour of) to_shortage said.0 refl said.1
 
           pub nothing_against : r ≡ None → Cleared b call (record { hours = n.hours; right = right_asked call n.direction.model; entry = entry })
           unfolding refuses
           nothing_against q =
               record {
-                clear = none_left (pass to_shortage (ap is_short (sym (rw q at (shortage_is size)))));
+                clear = none_left (pass to_shortage (ap is_short (sym (rw q at shortage_is))));
                 hours_are = w.names.hours_are;
                 right_is = ap (right_asked call) model_is;
                 enters = record { entry_is = e };

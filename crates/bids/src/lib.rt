@@ -112,7 +112,7 @@ fn bid_verdict(book: &Book, call: BidCall) -> Result<Booking, Refusal>
     }
     let right = call.right_asked(named.direction.model);
     let entry = right.entry(book)?;
-    if let Some((hour, capacity)) = capacity::shortage(book, named.hours, call.mw) {
+    if let Some((hour, capacity)) = capacity::shortage(book, named.hours, call.mw).found {
         return Err(Refusal::Short(hour, capacity));
     }
     Ok(Booking {

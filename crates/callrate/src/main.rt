@@ -26,7 +26,7 @@ struct Load {
     count: u32,
 }
 
-static LOADS: [Load; 9] = [
+static LOADS: [Load; 11] = [
     Load {
         name: "bids",
         calls: Calls::Bids(Bids::Mixed),
@@ -41,6 +41,16 @@ static LOADS: [Load; 9] = [
         name: "full",
         calls: Calls::Bids(Bids::Full),
         count: 400000,
+    },
+    Load {
+        name: "one-hour",
+        calls: Calls::Bids(Bids::OneHour),
+        count: 100000,
+    },
+    Load {
+        name: "first-hour",
+        calls: Calls::Bids(Bids::FirstHour),
+        count: 100000,
     },
     Load {
         name: "nominate-few",
@@ -74,11 +84,11 @@ static LOADS: [Load; 9] = [
     },
 ];
 
-// Mixed bids begin with no right.
+// Mixed bids, bids for one-hour sessions and bids for a session's first hour alone begin with no right.
 fn rights_of(calls: Calls) -> Option<Rights> {
     match calls {
-        Calls::Bids(Bids::Mixed) => None,
-        Calls::Bids(_) | Calls::Left | Calls::Right => Some(Rights::Full),
+        Calls::Bids(Bids::Mixed | Bids::OneHour | Bids::FirstHour) => None,
+        Calls::Bids(Bids::Standing | Bids::Full) | Calls::Left | Calls::Right => Some(Rights::Full),
         Calls::Nominations(rights) | Calls::Confirmed(rights) => Some(rights),
     }
 }
@@ -105,6 +115,9 @@ fn print_bids(rt: &impl Print, set_up: &Tally, tally: &Tally) -> io::Result<()> 
 // The sum of the answers. The tally is of bids only.
 fn make_calls(tallied: &mut TalliedBook, load: Load) -> u32 {
     match load.calls {
+        Calls::Bids(bids @ (Bids::OneHour | Bids::FirstHour)) => {
+            tallied.make_rounds_of_bids(bids, load.count)
+        }
         Calls::Bids(bids) => tallied.make_bids(bids, load.count),
         Calls::Nominations(rights) => callrate_books::make_nominations(
             tallied.book,
@@ -123,7 +136,7 @@ fn run(rt: &impl Print, load: Load) -> io::Result<()> {
     let set_up = callrate_books::fill(&mut book, rights);
     let mut tallied = TalliedBook::new(&mut book);
     let sum = make_calls(&mut tallied, load);
-    if rights.is_none() {
+    if matches!(load.calls, Calls::Bids(Bids::Mixed)) {
         print_bids(rt, &set_up, &tallied.tally)?;
     }
     println!(rt; "{}: {} calls, sum {sum}", load.name, load.count)

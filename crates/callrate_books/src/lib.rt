@@ -8,6 +8,7 @@ use cells::Book;
 use nomination_tests::NominationCall;
 use offers::OfferCall;
 use rules::{Answer, Hour, ReplyNumbers, Session};
+use std::ops::Range;
 
 // ---- answers
 
@@ -94,11 +95,26 @@ impl<'a> TalliedBook<'a> {
         }
     }
 
-    // The sum of the answers.
-    pub fn make_bids(&mut self, bids: Bids, calls: u32) -> u32 {
-        for i in 0..calls {
+    fn make_numbered_bids(&mut self, bids: Bids, numbers: Range<u32>) {
+        for i in numbers {
             let answer = bid(self.book, callrate_choices::bid_of(bids, i));
             self.tally.count(answer);
+        }
+    }
+
+    // The sum of the answers.
+    pub fn make_bids(&mut self, bids: Bids, calls: u32) -> u32 {
+        self.make_numbered_bids(bids, 0..calls);
+        self.tally.sum
+    }
+
+    // Bids in rounds of 512, since there is room for as many rights: each round begins on the book as it was filled. The sum of the answers.
+    pub fn make_rounds_of_bids(&mut self, bids: Bids, calls: u32) -> u32 {
+        let filled = *self.book;
+        for first in (0..calls).step_by(512) {
+            *self.book = filled;
+            let end = calls.min(first.saturating_add(512));
+            self.make_numbered_bids(bids, first..end);
         }
         self.tally.sum
     }
@@ -199,7 +215,7 @@ pub fn match_pairs(book: &mut Book, rights: Rights) {
     }
 }
 
-// With no rights a set-up for mixed bids; else there are four-hour directions, and the rights in the last session. The tally of the set-up alone.
+// With no rights a set-up of both models; else there are four-hour directions, and the rights in the last session. The tally of the set-up alone.
 pub fn fill(book: &mut Book, rights: Option<Rights>) -> Tally {
     match rights {
         None => set_up(book, 1, 24),

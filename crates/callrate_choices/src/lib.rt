@@ -12,6 +12,8 @@ pub enum Bids {
     Mixed,
     Standing,
     Full,
+    OneHour,
+    FirstHour,
 }
 
 // ---- mixed bids: eighty in each minute of the four-hour sessions' windows, one window after the other
@@ -86,6 +88,14 @@ fn one_mw(hour: u32) -> [u16; 5] {
     mw
 }
 
+// 1 MW on a direction with one-hour sessions, of which the last four take bids at `LATE` too. Each such bid opens a right.
+fn one_hour_bid(i: u32) -> BidCall {
+    BidCall {
+        session: Session((21 + i / 12 % 4) as u8),
+        ..late_bid(i, i % 12, one_mw(0))
+    }
+}
+
 // The rights that a load finds.
 #[derive(Clone, Copy)]
 pub enum Rights {
@@ -118,12 +128,15 @@ impl Rights {
     }
 }
 
-// Standing bids are for the last 64 of 512 rights. Bids at a full table would need one more.
+// Standing bids are for the last 64 of 512 rights. Bids at a full table would need one more. Bids with MW in a session's first hour alone are one party's,
+// so that they add to 12 rights.
 pub fn bid_of(bids: Bids, i: u32) -> BidCall {
     match bids {
         Bids::Mixed => mixed_bid(i),
         Bids::Standing => late_bid(56 + i / 8 % 8, i % 8, one_mw(i / 64)),
         Bids::Full => late_bid(i, 8, [1, 1, 1, 1, 0]),
+        Bids::OneHour => one_hour_bid(i),
+        Bids::FirstHour => late_bid(0, 12 + i % 12, one_mw(0)),
     }
 }
 

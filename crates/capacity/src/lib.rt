@@ -1,14 +1,16 @@
 // The MW of a bid and of a nomination in range, the search for a shortage, and the granting of a bid's hours, in place.
 #![tactic(auto)]
 
-ghost use Rattle.std.specs.Prelude.{◌≡◌, ◌+◌, ◌<◌, ◌≤◌, ◌||◌, drop, nat_lt};
+ghost use Rattle.std.specs.Prelude.{◌≡◌, ◌+◌, ◌<◌, ◌≤◌, ◌||◌, drop, length, nat_lt, take};
 ghost use Rattle.rules.specs.Basics.{any_above};
+ghost use Rattle.rules.specs.Bids.{shortage};
 ghost use Rattle.rules.specs.Book.{left_at, profile_limit};
+ghost use Rattle.rules.specs.Searches.{compared, to_last_asked};
 ghost use Rattle.rules.specs.Windows.{latest};
 ghost use Rattle.cells.specs.Layout.{CELLS, PROFILES};
 ghost use Rattle.cells.specs.View.{book_of, counted};
 ghost use Rattle.stores.specs.Bids.{added_cell, granted_profile, granted_hour, granted_hours, added_five};
-ghost use Rattle.capacity.specs.Search.{Hours, InDirection, InProfile, profile_short_in, shortage_in};
+ghost use Rattle.capacity.specs.Search.{Hours, InDirection, InProfile, as_shortage};
 
 use cells::{Book, Place};
 use rules::{CapacityOf, Hour};
@@ -28,6 +30,13 @@ struct DirectionHour {
     direction: u8,
     hour: Hour,
     ghost inside: { InDirection direction hour.0 },
+}
+
+// What the search for a shortage found, and how many values of left it compared.
+#[derive(Clone, Copy, PartialEq, Eq)]
+pub struct Searched {
+    pub found: Option<(Hour, CapacityOf)>,
+    pub compared: u32,
 }
 
 fn profile_count(book: &Book) -> u8
@@ -72,43 +81,54 @@ impl DirectionHour {
             hour: self.hour,
         })
     }
+}
 
-    // A profile holds the direction and has less left.
-    #[tactic(auto, unfolding(crate::specs::Search::profile_short_in))]
-    fn profile_short(self, book: &Book, profile: u8, asked: u16) -> bool
-        requires { profile < profile_limit }
-        ensures { result ≡ profile_short_in book.now self.direction self.hour.0 asked profile }
+impl SessionHours {
+    // Their MW up to the last above 0.
+    fn to_last_asked(self, mw: &[u16; 5]) -> &[u16]
+        ensures searched { result.now ≡ to_last_asked (take self.count mw.now) }
+        ensures few { length result.now ≤ self.count }
     {
-        let place = self.in_profile(book, profile);
-        place.is_some_and(|at| is_short(book, at, asked))
+        let mw = &mw[..self.count as usize];
+        match mw.iter().rposition(|asked| *asked > 0) {
+            Some(last) => &mw[..=last],
+            None => &mw[..0],
+        }
     }
 }
 
 // The first hour that is short, and in it the direction before the profiles, the lowest profile first.
 // Labelled loops: document 01 names them for this search.
-pub fn shortage(book: &Book, hours: SessionHours, mw: [u16; 5]) -> Option<(Hour, CapacityOf)>
-    ensures { result ≡ shortage_in book.now hours.direction hours.first.0 hours.count mw }
+pub fn shortage(book: &Book, hours: SessionHours, mw: [u16; 5]) -> Searched
+    ensures found { as_shortage result.found ≡ shortage (book_of book.now) hours.direction hours.first.0 (take hours.count mw) }
+    ensures count { result.compared ≡ compared (book_of book.now) hours.direction hours.first.0 (take hours.count mw) }
+    ensures few { result.compared ≤ 45 }
 {
     let profiles = profile_count(book);
     let mut found = None;
-    'hours: for (k, asked) in mw[..hours.count as usize].iter().enumerate() {
+    let mut compared = 0;
+    'hours: for (k, asked) in hours.to_last_asked(&mw).iter().enumerate() {
         let hour = Hour(hours.first.0 + k as u8);
         let at = DirectionHour {
             direction: hours.direction,
             hour,
         };
+        compared += 1;
         if at.is_short(book, *asked) {
             found = Some((hour, CapacityOf::Direction));
             break 'hours;
         }
         for profile in 0..profiles {
-            if at.profile_short(book, profile, *asked) {
-                found = Some((hour, CapacityOf::Profile(profile)));
-                break 'hours;
+            if let Some(place) = at.in_profile(book, profile) {
+                compared += 1;
+                if is_short(book, place, *asked) {
+                    found = Some((hour, CapacityOf::Profile(profile)));
+                    break 'hours;
+                }
             }
         }
     }
-    found
+    Searched { found, compared }
 }
 
 // A MW above `most` is among those from number `from` on.

@@ -13,5 +13,6 @@ fn main(rt: HostRuntime) -> io::Result<()> {
     cases_windows::run(&mut report)?;
     cases_records::run(&mut report)?;
     cases_full::run(&mut report)?;
+    cases_searches::run(&mut report)?;
     report.finish()
 }

@@ -123,6 +123,10 @@ pub profile_count : (b : List ℕ) → length (book_of b).profiles ≡ counted b
 unfolding book_of profiles_in
 profile_count b = part_length b (PROFILES + 1) (counted b PROFILES profile_limit)
 
+pub profile_at : (b : List ℕ) (p : ℕ) → p < counted b PROFILES profile_limit → get_or (book_of b).profiles p 0 ≡ cell b (PROFILES + 1 + p)
+unfolding book_of profiles_in
+profile_at b p l = part_at b (PROFILES + 1) (counted b PROFILES profile_limit) p l
+
 pub record KnownProfile (b : List ℕ) (p hour : ℕ) : Type 0 where
   pub profile : p < profile_limit
   pub first : 1 ≤ hour

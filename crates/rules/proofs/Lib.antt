@@ -6,6 +6,7 @@ pub mod Listed
 pub mod Decisions
 pub mod Histories
 pub mod Places
+pub mod Searches
 pub mod Shortages
 pub mod Books
 pub mod Capacity

@@ -1,11 +1,15 @@
 -- 01, Cases: those marked M, and those of 02, as one table of what the definitions compute and what the papers say. Yes is 1 and no is 0.
 -- Assumes nothing.
 use Rattle.std.specs.Prelude.{ℕ, ◌+◌, ◌-◌, ◌%◌, ◌≡◌, Bool, if◌then◌else◌, List, [], ◌∷◌, ◌++◌, map, get_or}
+use Rattle.rules.specs.Basics.{no_mw}
 use Rattle.rules.specs.Calendar.{days_in}
 use Rattle.rules.specs.Sessions.{first_hour, hours_in}
 use Rattle.rules.specs.Windows.{bids_close, bid_timing, nomination_timing, offer_timing, matching_timing}
 use Rattle.rules.specs.Codes.{char_value, weighted_sum, is_code}
-use Rattle.rules.specs.Book.{BookDate, NoDate, On, right}
+use Rattle.rules.specs.Book.{BookDate, NoDate, On, Book, right}
+use Rattle.rules.specs.Bids.{Shortage, shortage}
+use Rattle.rules.specs.Searches.{compared}
+use Rattle.rules.specs.Details.{short_hour_of, short_capacity_of}
 use Rattle.rules.specs.Calls.{Call, AddDirection, AddProfile, AddParty, OfferDirection, OfferProfile, Bid, Nominate, Match, Reply}
 use Rattle.rules.specs.Run.{Step, Run, run}
 use Rattle.rules.specs.Opening.{opening}
@@ -116,6 +120,10 @@ due code = 36 - (weighted_sum code - 1) % 37
 abbrev one : ℕ → List ℕ
 one mw = mw ∷ 0 ∷ 0 ∷ 0 ∷ 0 ∷ []
 
+-- these MW in the fifth hour of a session, 0 in the others
+abbrev fifth : ℕ → List ℕ
+fifth mw = 0 ∷ 0 ∷ 0 ∷ 0 ∷ mw ∷ []
+
 -- bids of 10 MW in hour 1 a minute before the hold, and in hours 1 and 2 in its first minute, in its last and after it
 abbrev wednesday_hold : List Call
 wednesday_hold =
@@ -213,6 +221,29 @@ hour_cut =
     ∷ Bid 1100 0 0 1 (50 ∷ 60 ∷ 50 ∷ 0 ∷ 0 ∷ []) ∷ OfferDirection 1100 0 2 40
     ∷ Bid 1100 0 0 1 (10 ∷ 0 ∷ 10 ∷ 0 ∷ 0 ∷ []) ∷ Bid 1100 0 0 1 (10 ∷ 1 ∷ 10 ∷ 0 ∷ 0 ∷ []) ∷ []
 
+-- session 1 of the four-hour model on direction 0, which profiles 0 and 2 hold and profile 1 doesn't: in hours 1 and 3 there are 100 MW of the direction, 60
+-- of profile 0 and 20 of profile 2
+abbrev three_profiles : List Call
+three_profiles =
+    AddDirection 0 4 4 ∷ AddDirection 0 1 4 ∷ AddDirection 0 2 4 ∷ AddProfile 3 ∷ AddProfile 6 ∷ AddProfile 5
+    ∷ OfferDirection 1000 0 1 100 ∷ OfferDirection 1000 0 3 100 ∷ OfferProfile 1000 0 1 60 ∷ OfferProfile 1000 0 3 60
+    ∷ OfferProfile 1000 2 1 20 ∷ OfferProfile 1000 2 3 20 ∷ []
+
+-- direction 0 and eight profiles that hold it, of which all but the last are offered 50 MW in hour 5
+abbrev eight_profiles : List Call
+eight_profiles =
+    AddDirection 0 4 4 ∷ AddDirection 0 1 4 ∷ AddProfile 3 ∷ AddProfile 3 ∷ AddProfile 3 ∷ AddProfile 3 ∷ AddProfile 3 ∷ AddProfile 3 ∷ AddProfile 3 ∷ AddProfile 3
+    ∷ OfferDirection 1000 0 5 50 ∷ OfferProfile 1000 0 5 50 ∷ OfferProfile 1000 1 5 50 ∷ OfferProfile 1000 2 5 50 ∷ OfferProfile 1000 3 5 50
+    ∷ OfferProfile 1000 4 5 50 ∷ OfferProfile 1000 5 5 50 ∷ OfferProfile 1000 6 5 50 ∷ []
+
+-- of searches on direction 0 from hour 1 on, each for five MW: the hour and the capacity that are short, zeros where nothing is, and how many values of left
+-- were compared
+abbrev searches : Book → List (List ℕ) → List ℕ
+searches b [] = []
+searches b (mw ∷ mws) =
+    let s : Shortage = shortage b 0 1 mw in
+    short_hour_of s ∷ short_capacity_of s ∷ compared b 0 1 mw ∷ searches b mws
+
 -- party 0 nominates a right of 100 with itself (95 out, 90 in) and with party 1 (60 out, 70 in): m 90 and 60
 abbrev two_pairs : List Call
 two_pairs =
@@ -242,10 +273,6 @@ one_pair = right_of_100 (both_sides 0 0 0 (one 130))
 -- m 70 and 80, and a pair whose in party sent nothing
 abbrev one_side_sent : List Call
 one_side_sent = right_of_100 (both_sides 0 0 0 (one 70) ++ both_sides 0 0 1 (one 80) ++ (Nominate 1110 1 0 0 0 (one 40) ∷ []))
-
--- these MW in the fifth hour of a session, 0 in the others
-abbrev fifth : ℕ → List ℕ
-fifth mw = 0 ∷ 0 ∷ 0 ∷ 0 ∷ mw ∷ []
 
 -- session 1 of the four-hour model in its fifth hour: right 0 with a pair of 9, and right 1 with 98 MW and three pairs of 50
 abbrev two_rights : List Call
@@ -438,6 +465,20 @@ cases =
       computed = left_numbers (read_direction (monday hour_cut).book 0 1) ++ left_numbers (read_direction (monday hour_cut).book 0 2);
       said = 0 ∷ 40 ∷ 0 ∷ 0 ∷ 0 ∷ 20 ∷ [];
     }
+    -- 02, S-5: MW 10, 0, 5, 0 compare three hours of three values each, all zero none, hour 1 alone three; hour 4 alone nine and that of the direction, which is short
+    ∷ record {
+      computed = searches (monday three_profiles).book ((10 ∷ 0 ∷ 5 ∷ 0 ∷ 0 ∷ []) ∷ no_mw ∷ one 20 ∷ (0 ∷ 0 ∷ 0 ∷ 1 ∷ 0 ∷ []) ∷ []);
+      said = 0 ∷ 0 ∷ 9 ∷ 0 ∷ 0 ∷ 0 ∷ 0 ∷ 0 ∷ 3 ∷ 4 ∷ 0 ∷ 10 ∷ [];
+    }
+    -- short at the direction in the first hour one value is compared, at the first profile two, and at the second that holds the direction three
+    ∷ record { computed = searches (monday three_profiles).book (one 101 ∷ one 61 ∷ one 21 ∷ []); said = 1 ∷ 0 ∷ 1 ∷ 1 ∷ 1 ∷ 2 ∷ 1 ∷ 3 ∷ 3 ∷ [] }
+    -- short in the third hour: three values for each hour before it
+    ∷ record {
+      computed = searches (monday three_profiles).book ((10 ∷ 0 ∷ 101 ∷ 0 ∷ 0 ∷ []) ∷ (10 ∷ 0 ∷ 21 ∷ 0 ∷ 0 ∷ []) ∷ []);
+      said = 3 ∷ 0 ∷ 7 ∷ 3 ∷ 3 ∷ 9 ∷ [];
+    }
+    -- the most: five hours of a direction that eight profiles hold, the last of which is short in the last hour; where the direction is short there, 37
+    ∷ record { computed = searches (sunday eight_profiles).book (fifth 50 ∷ fifth 51 ∷ []); said = 5 ∷ 8 ∷ 45 ∷ 5 ∷ 0 ∷ 37 ∷ [] }
     -- right 100: m 90, 60 give 60, 40; the last two nominations exceed the right on their side, and matching at 1,394 is too early
     ∷ record { computed = (read_confirmed (monday two_pairs).book 0 0 0).mw ++ (read_confirmed (monday two_pairs).book 0 0 1).mw; said = one 60 ++ one 40 }
     ∷ record {

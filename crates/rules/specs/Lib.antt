@@ -8,6 +8,7 @@ pub mod Calls
 pub mod Said
 pub mod Setup
 pub mod Bids
+pub mod Searches
 pub mod Nominations
 pub mod Rounding
 pub mod Sides

@@ -1,6 +1,5 @@
 -- `bids::bid_verdict` meets its contract.
 -- Assumes nothing.
-use borrow.Author.Rules.{rules}
 use mathlib.Core.Path.{subst, ◌∙◌}
 use Rattle.std.proofs.lemmas.Result.{err_from_is_err_and}
 use Rattle.answers.proofs.Laws.{refused_with}
@@ -48,8 +47,8 @@ returns-in_err-entry c =
 
 pub returns-in-Some : goal.returns-in-Some
 returns-in-Some c =
-    short (within (goal.at.returns-in-Some c).In_ok-window_verdict) (cc) (cc) (c.in_ok-entry.ensures ∙ rw c.right_asked-right.ensures) c.shortage.ensures (search rules) c.in-Some.is
+    short (within (goal.at.returns-in-Some c).In_ok-window_verdict) (cc) (cc) (c.in_ok-entry.ensures ∙ rw c.right_asked-right.ensures) _ c.shortage.ensures.found c.in-Some.is
 
 pub returns : goal.returns
 returns c =
-    rw c.right_asked-right.ensures (nothing_against (within (goal.at.returns c).In_ok-window_verdict) (cc) (cc) (c.in_ok-entry.ensures ∙ rw c.right_asked-right.ensures) c.shortage.ensures (search rules) c.in_default.is)
+    rw c.right_asked-right.ensures (nothing_against (within (goal.at.returns c).In_ok-window_verdict) (cc) (cc) (c.in_ok-entry.ensures ∙ rw c.right_asked-right.ensures) _ c.shortage.ensures.found c.in_default.is)
