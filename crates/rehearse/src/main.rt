@@ -4,10 +4,35 @@
 use cells::Book;
 use rehearse_lines::{Kind, Request};
 use rehearse_reads::Reply;
-use rehearse_text::Line;
+use rehearse_text::{Line, Text};
 use rehearse_words::Counts;
 use std::io;
 use std::io::{Read, Write};
+
+// ---- output
+
+// Collects the parts of a line, so that it is written at once. Where there is no more room, what came before is written first.
+#[derive(Drop)]
+struct Collected<'a, W> {
+    out: &'a mut W,
+    text: Text,
+}
+
+impl<W: Write> Write for Collected<'_, W> {
+    fn write(&mut self, part: &[u8]) -> io::Result<usize> {
+        if self.text.is_full() {
+            self.flush()?;
+        }
+        self.text.write(part)
+    }
+
+    // What can't be written is not kept.
+    fn flush(&mut self) -> io::Result<()> {
+        let written = self.out.write_all(&self.text);
+        self.text.clear();
+        written
+    }
+}
 
 // ---- lines
 
@@ -26,19 +51,19 @@ fn reply(book: &mut Book, request: &Request) -> Reply {
 // Where the lines are printed and what came of that, the book, and the count of the lines.
 #[derive(Drop)]
 struct Rehearsal<'a, W> {
-    out: &'a mut W,
+    out: Collected<'a, W>,
     printed: io::Result<()>,
     book: &'a mut Book,
     counts: Counts,
 }
 
-impl<W: Write> Rehearsal<'_, W> {
-    // Prints where all before it could be printed.
-    fn print<F: FnOnce(&mut W) -> io::Result<()>>(&mut self, write: F)
+impl<'a, W: Write> Rehearsal<'a, W> {
+    // Prints a line where all before it could be printed.
+    fn print<F: FnOnce(&mut Collected<'a, W>) -> io::Result<()>>(&mut self, write: F)
         requires { F.IsAlwaysCallable write }
     {
         if self.printed.is_ok() {
-            self.printed = write(self.out);
+            self.printed = write(&mut self.out).and_then(|()| self.out.flush());
         }
     }
 
@@ -91,19 +116,25 @@ impl<W: Write> Rehearsal<'_, W> {
             self.answer(&line);
         }
     }
+
+    // Nobody is told of a write that fails; the counts are printed in any case.
+    fn print_counts(&mut self) {
+        let counts = self.counts;
+        let _counted = writeln!(self.out, "{counts}").and_then(|()| self.out.flush());
+    }
 }
 
 fn main(rt: HostRuntime) {
     let mut book = [0u32; cells::CELLS];
-    let out = &mut io::writer(&rt);
     let mut rehearsal = Rehearsal {
-        out,
+        out: Collected {
+            out: &mut io::writer(&rt),
+            text: Text::new(),
+        },
         printed: Ok(()),
         book: &mut book,
         counts: Counts::default(),
     };
     rehearsal.answer_all(&mut rt.reader());
-    // Nobody is told of a write that fails; the counts are printed in any case.
-    let counts = rehearsal.counts;
-    let _counted = writeln!(out, "{counts}");
+    rehearsal.print_counts();
 }

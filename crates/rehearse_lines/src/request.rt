@@ -10,7 +10,7 @@ use rehearse_text::{Numbers, ends_word, is_over, past_all, past_sign, past_word}
 // Its numbers in their order; the map of a profile's directions is its only number. No numbers are expected where there are none in `expected`, since an equals
 // sign without a number is refused: an `Option` would be no plainer.
 // A kind beside its numbers in a row: the patterns say what each number is, and a case for each kind would say it twice.
-#[derive(Drop)]
+#[derive(Clone, Copy)]
 pub struct Request {
     pub kind: Kind,
     pub given: Numbers,

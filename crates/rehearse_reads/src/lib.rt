@@ -3,6 +3,7 @@
 
 ghost use Rattle.std.specs.Prelude.{◌≡◌};
 ghost use Rattle.rules.specs.Said.{said_refusal};
+ghost use Rattle.rehearse_text.specs.Rows.{numbers_in};
 ghost use Rattle.rehearse_reads.specs.LineReads.{ReadsLine};
 ghost use Rattle.rehearse_reads.specs.Rows.{of_call, of_left, of_right, of_confirmed, numbers_of};
 
@@ -49,7 +50,7 @@ pub fn read(book: &Book, kind: ReadKind, given: [u64; 10]) -> Reply
 
 // Here and below not `From`, as in `answers::numbers`: each clause would become a ghost member that says the same equation.
 fn of_call(answer: Answer) -> Numbers
-    ensures { result.0.items ≡ of_call answer }
+    ensures { numbers_in result ≡ of_call answer }
 {
     let said = daybook::numbers(answer);
     Numbers::from([
@@ -67,7 +68,7 @@ fn number_of(refusal: Refusal) -> u64
 }
 
 fn of_left(read: Result<LeftRead, Refusal>) -> Numbers
-    ensures { result.0.items ≡ of_left read }
+    ensures { numbers_in result ≡ of_left read }
 {
     match read {
         Ok(read) => Numbers::from([0, u64::from(read.left), u64::from(read.shortfall)]),
@@ -76,7 +77,7 @@ fn of_left(read: Result<LeftRead, Refusal>) -> Numbers
 }
 
 fn of_right(read: Result<RightRead, Refusal>) -> Numbers
-    ensures { result.0.items ≡ of_right read }
+    ensures { numbers_in result ≡ of_right read }
 {
     match read {
         Ok(read) => {
@@ -98,7 +99,7 @@ fn of_right(read: Result<RightRead, Refusal>) -> Numbers
 }
 
 fn of_confirmed(read: Result<[u32; 5], Refusal>) -> Numbers
-    ensures { result.0.items ≡ of_confirmed read }
+    ensures { numbers_in result ≡ of_confirmed read }
 {
     match read {
         Ok(mw) => {
@@ -119,7 +120,7 @@ fn of_confirmed(read: Result<[u32; 5], Refusal>) -> Numbers
 impl Reply {
     // 0 for granted or the number of the refusal, and what it names.
     pub fn numbers(self) -> Numbers
-        ensures { result.0.items ≡ numbers_of self }
+        ensures { numbers_in result ≡ numbers_of self }
     {
         match self {
             Reply::Opening(answer) => of_call(answer.map(|(detail, _)| detail)),

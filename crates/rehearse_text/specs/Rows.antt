@@ -1,7 +1,11 @@
--- Numbers in a row as they are printed.
+-- Numbers in a row, and how they are printed.
 -- Assumes nothing.
-use Rattle.std.specs.Prelude.{ℕ, List, [], ◌∷◌, ◌++◌}
+use Rattle.std.specs.Prelude.{ℕ, List, [], ◌∷◌, ◌++◌, take}
 use Rattle.std.specs.Fmt.{decimal}
+use Rattle.rehearse_text.specs.declared.row.Numbers.{Numbers}
+
+abbrev pub numbers_in : Numbers → List ℕ
+numbers_in row = take row.count row.values
 
 -- each with a space before it
 unfoldable pub row_after : List ℕ → List ℕ

@@ -1,73 +1,95 @@
 // Numbers in a row.
-ghost use Rattle.std.specs.Prelude.{◌≡◌, ◌==◌, ◌-◌, ◌<◌, [], ◌∷◌, ◌++◌, replicate, take};
-ghost use Rattle.arrayvec.specs.ArrayVec.{array_vec_len};
+ghost use Rattle.std.specs.Prelude.{◌≡◌, ◌==◌, ◌-◌, ◌<◌, ◌≤◌, [], ◌∷◌, ◌++◌, length, replicate, take, drop};
+ghost use Rattle.rehearse_text.specs.declared.row.TheConstants.{MOST};
 
-use arrayvec::ArrayVec;
 use std::fmt;
 
 // How many numbers of a row are kept.
 pub const MOST: usize = 10;
 
-// The first ten numbers.
-#[derive(Default, PartialEq, Eq, Drop)]
-pub struct Numbers(ArrayVec<u64, MOST>);
+// The first ten numbers. The values past the count are 0, so that rows of the same numbers are equal field by field. No `ArrayVec`, which isn't `Copy`.
+#[derive(Clone, Copy, PartialEq, Eq)]
+pub struct Numbers {
+    values: [u64; MOST],
+    count: usize,
+    ghost fits: { count ≤ length values },
+    ghost zeros: { drop count values ≡ replicate (MOST - count) 0 },
+}
 
 impl Numbers {
+    ghost use Rattle.rehearse_text.specs.Rows.{numbers_in};
+
     // One number more, where there is room.
     pub fn add(&mut self, value: u64)
-        ensures added { array_vec_len self.old.0 < MOST → self.new.0.items ≡ self.old.0.items ++ value ∷ [] }
-        ensures full { array_vec_len self.old.0 ≡ MOST → self.new ≡ self.old }
+        ensures added { length (numbers_in self.old) < MOST → numbers_in self.new ≡ numbers_in self.old ++ value ∷ [] }
+        ensures full { length (numbers_in self.old) ≡ MOST → self.new ≡ self.old }
     {
-        if !self.0.is_full() {
-            self.0.push(value);
+        if self.count < MOST {
+            self.values[self.count] = value;
+            self.count += 1;
         }
     }
 
     // All ten; those that are left out are 0.
     pub fn values(&self) -> [u64; MOST]
-        ensures { result ≡ self.now.0.items ++ replicate (MOST - array_vec_len self.now.0) 0 }
+        ensures { result ≡ numbers_in self.now ++ replicate (MOST - length (numbers_in self.now)) 0 }
     {
-        let mut values = [0; MOST];
-        values[..self.0.len()].copy_from_slice(&self.0);
-        values
+        self.values
     }
 
     pub fn count(&self) -> usize
-        ensures { result ≡ array_vec_len self.now.0 }
+        ensures { result ≡ length (numbers_in self.now) }
     {
-        self.0.len()
+        self.count
     }
 
     pub fn is_empty(&self) -> bool
-        ensures { result ≡ (array_vec_len self.now.0 == 0) }
+        ensures { result ≡ (length (numbers_in self.now) == 0) }
     {
-        self.0.is_empty()
+        self.count == 0
+    }
+}
+
+// Not derived: no derive makes a ghost field.
+impl Default for Numbers {
+    ghost use Rattle.rehearse_text.specs.Rows.{numbers_in};
+
+    ghost is_default = { λ row. numbers_in row ≡ [] };
+
+    fn default() -> Numbers {
+        Numbers {
+            values: [0; MOST],
+            count: 0,
+        }
     }
 }
 
 impl<const N: usize> From<[u64; N]> for Numbers {
-    ghost use Rattle.rehearse_text.specs.declared.row.TheConstants.{MOST};
+    ghost use Rattle.rehearse_text.specs.Rows.{numbers_in};
 
-    ghost from_gives = { λ row numbers. numbers.0.items ≡ take MOST row };
+    ghost from_gives = { λ row numbers. numbers_in numbers ≡ take MOST row };
 
     fn from(row: [u64; N]) -> Numbers {
         let row = &row[..];
         let kept = row.get(..MOST).unwrap_or(row);
-        let mut numbers = ArrayVec::new();
-        numbers.try_extend_from_slice(kept).unwrap();
-        Numbers(numbers)
+        let mut values = [0; MOST];
+        values[..kept.len()].copy_from_slice(kept);
+        Numbers {
+            values,
+            count: kept.len(),
+        }
     }
 }
 
 // With a space between two of them.
 impl fmt::Display for Numbers {
     ghost use Rattle.std.specs.Prelude.{Some};
-    ghost use Rattle.rehearse_text.specs.Rows.{row_text};
+    ghost use Rattle.rehearse_text.specs.Rows.{numbers_in, row_text};
 
-    ghost output = { λ numbers. Some (row_text numbers.0.items) };
+    ghost output = { λ numbers. Some (row_text (numbers_in numbers)) };
 
     fn fmt<W: fmt::Write>(&self, f: &mut fmt::Formatter<W>) -> fmt::Result {
-        let [first, rest @ ..] = self.0.as_slice() else {
+        let [first, rest @ ..] = &self.values[..self.count] else {
             return Ok(());
         };
         write!(f, "{first}")?;

@@ -4,6 +4,7 @@
 ghost use Rattle.std.specs.Prelude.{◌≡◌, ◌≤◌, ◌∷◌, ◌++◌, [], length, OnOk};
 ghost use Rattle.std.specs.Io.KnownBytes.{Appends};
 ghost use Rattle.std.specs.List.{prefix_len};
+ghost use Rattle.rehearse_text.specs.Rows.{numbers_in};
 ghost use Rattle.rehearse_reads.specs.Rows.{numbers_of};
 ghost use Rattle.rehearse_words.specs.Texts.{is_printable, shown, is_other, mark_text, answer_line, unfit_line};
 
@@ -55,8 +56,9 @@ pub fn write_passed_on<W: Write>(out: &mut W, line: &[u8]) -> io::Result<()>
 }
 
 // Numbers were expected, and the reply has others.
+#[tactic(auto, using(rehearse_text::proofs::Same::same_rows))]
 pub fn differs(request: &Request, reply: Reply) -> bool
-    ensures { result ≡ is_other request.now.expected.0.items (numbers_of reply) }
+    ensures { result ≡ is_other (numbers_in request.now.expected) (numbers_of reply) }
 {
     !request.expected.is_empty() && request.expected != reply.numbers()
 }
@@ -74,7 +76,7 @@ pub fn write_answered<W: Write>(
     request: &Request,
     reply: Reply,
 ) -> io::Result<()>
-    ensures { OnOk result (Appends (W.contents out.old) (W.contents out.new) (answer_line line.now request.now.expected.0.items reply)) }
+    ensures { OnOk result (Appends (W.contents out.old) (W.contents out.new) (answer_line line.now (numbers_in request.now.expected) reply)) }
 {
     let numbers = reply.numbers();
     let words = InWords(reply);

@@ -1,5 +1,6 @@
 // Replies in words.
 ghost use Rattle.std.specs.Prelude.{◌≡◌};
+ghost use Rattle.rehearse_text.specs.Rows.{numbers_in};
 ghost use Rattle.rehearse_words.specs.Words.{weekday_text, marked_hours};
 
 use answers::{LeftRead, RightRead};
@@ -46,7 +47,7 @@ impl fmt::Display for Opened {
 
 // The hours of the session, from 1, whose marks stand. Over all five: a `filter` of them was tried, and the proof didn't close.
 fn hours_of(marks: u32) -> Numbers
-    ensures { result.0.items ≡ marked_hours marks }
+    ensures { numbers_in result ≡ marked_hours marks }
 {
     let mut hours = Numbers::default();
     for hour in 0..5u32 {
@@ -127,7 +128,7 @@ impl fmt::Display for Left {
 }
 
 fn row_of(mw: [u32; 5]) -> Numbers
-    ensures { result.0.items ≡ mw }
+    ensures { numbers_in result ≡ mw }
 {
     Numbers::from(mw.map(u64::from))
 }

@@ -5,6 +5,7 @@ use Rattle.std.specs.List.{filter}
 use Rattle.std.proofs.lemmas.List.Elements.{filter_more}
 use Rattle.std.proofs.lemmas.List.Filters.{length-filter_both}
 use Rattle.rules.specs.Basics.{bit}
+use Rattle.rehearse_text.specs.Rows.{numbers_in}
 use Rattle.rehearse_words.specs.Words.{is_marked}
 use Rattle.rehearse_words.proofs.words.hours_of.Goals.{then-has_bit, else-has_bit}
 use Rattle.rehearse_words.proofs.words.hours_of.Goals as goal
@@ -35,11 +36,11 @@ few marks k h = omega (arith, length-filter_both (is_marked marks) (λ hour. not
 pub loop-hour-preserved : goal.loop-hour-preserved
 loop-hour-preserved c =
     let before = c.loop-hour.invariant in
-    let room : length c.loop-hour.hours.0.items < 10 = rw before (few c.args.marks c.loop-hour.hour c.loop-hour-test.true) in
+    let room : length (numbers_in c.loop-hour.hours) < 10 = rw before (few c.args.marks c.loop-hour.hour c.loop-hour-test.true) in
     elim c.if-has_bit.branch [
       | then-has_bit w ↦
           one_more c.args.marks c.loop-hour.hour true _ _ c.loop-hour-test.true (cc) before
           (rw (w.hours-is, ← w.from.ensures) (w.add.ensures.added room))
       | else-has_bit w ↦
-          one_more c.args.marks c.loop-hour.hour false _ _ c.loop-hour-test.true (cc) before (rw w.hours-is (sym (append-nil c.loop-hour.hours.0.items)))
+          one_more c.args.marks c.loop-hour.hour false _ _ c.loop-hour-test.true (cc) before (rw w.hours-is (sym (append-nil (numbers_in c.loop-hour.hours))))
     ]
