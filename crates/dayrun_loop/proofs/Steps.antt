@@ -3,10 +3,10 @@
 use Rattle.std.proofs.Common.{◌≡◌, ℕ, suc, ◌+◌, ◌≤◌, Bool, true, false, ◌||◌, List, take, sym, refl, ◌∙◌, true≢false, arith}
 use Rattle.std.proofs.lemmas.Grind.{common_steps}
 use Rattle.lines.specs.Text.{line_size}
-use Rattle.dayrun_progress.specs.declared.Progress.{Progress}
+use Rattle.dayrun_progress.specs.declared.Buffers.{Buffers}
 use Rattle.dayrun_progress.specs.declared.Next.{Next}
 use Rattle.dayrun_progress.specs.declared.Next.TheVariants.{Take, Write, Read, End}
-use Rattle.dayrun_progress.specs.States.{next_of, wrote_progress, received_progress}
+use Rattle.dayrun_progress.specs.States.{next_of, wrote_buffers, received_buffers}
 use Rattle.stream.specs.Running.{AnswersNext, State, next_in, begins, answers, writes, reads}
 use Rattle.dayrun_progress.proofs.Nexts.{answering, reading_on}
 use Rattle.stream.proofs.Running.{writes_all}
@@ -17,22 +17,22 @@ or-true true = refl
 or-true false = refl
 
 -- nothing is written after a write that failed
-none_written : {room size : ℕ} (progress : Progress room size) → next_of (wrote_progress progress false) ≡ Write → ⊥
+none_written : {room size : ℕ} (buffers : Buffers room size) → next_of (wrote_buffers buffers false) ≡ Write → ⊥
 unfolding next_of
-none_written progress t = grind (arith, common_steps)
+none_written buffers t = grind (arith, common_steps)
 
-arrives_take : {room size : ℕ} (st : State room size) (r : Progress room size) (after : List ℕ) → Arrives st → next_in st ≡ Take → AnswersNext st.cells st.progress r after → Arrives (state_of after r)
+arrives_take : {room size : ℕ} (st : State room size) (r : Buffers room size) (after : List ℕ) → Arrives st → next_in st ≡ Take → AnswersNext st.cells st.buffers r after → Arrives (state_of after r)
 arrives_take st r after (reached input written _ s) t a = reached input written _ (answers r after s t a)
-arrives_take st r after (failed _ _ old s w) t a = absurd (true≢false (sym (or-true old.progress.done) ∙ (answering _ t).going))
+arrives_take st r after (failed _ _ old s w) t a = absurd (true≢false (sym (or-true old.buffers.progress.done) ∙ (answering _ t).going))
 
-arrives_write : {room size : ℕ} (st : State room size) (written : Bool) → Arrives st → next_in st ≡ Write → Arrives (state_of st.cells (wrote_progress st.progress written))
+arrives_write : {room size : ℕ} (st : State room size) (written : Bool) → Arrives st → next_in st ≡ Write → Arrives (state_of st.cells (wrote_buffers st.buffers written))
 arrives_write st true (reached input written _ s) t = reached input _ _ (writes s t)
 arrives_write st false (reached input written _ s) t = failed input written st s t
-arrives_write st written (failed _ _ old s w) t = absurd (none_written old.progress t)
+arrives_write st written (failed _ _ old s w) t = absurd (none_written old.buffers t)
 
-arrives_read : {room size : ℕ} (st : State room size) (bytes : List ℕ) → Arrives st → next_in st ≡ Read → Arrives (state_of st.cells (received_progress st.progress bytes))
+arrives_read : {room size : ℕ} (st : State room size) (bytes : List ℕ) → Arrives st → next_in st ≡ Read → Arrives (state_of st.cells (received_buffers st.buffers bytes))
 arrives_read st bytes (reached input written _ s) t = reached _ written _ (reads bytes s t)
-arrives_read st bytes (failed _ _ old s w) t = absurd (true≢false (sym (or-true old.progress.done) ∙ (reading_on _ t).going))
+arrives_read st bytes (failed _ _ old s w) t = absurd (true≢false (sym (or-true old.buffers.progress.done) ∙ (reading_on _ t).going))
 
 -- the step that comes next leads on
 leads_on : {room size : ℕ} (st : State room size) (next : Next) (after : State room size) → Arrives st → next_in st ≡ next → Steps st next after → Arrives after

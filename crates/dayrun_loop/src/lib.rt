@@ -16,14 +16,14 @@ const INPUT: usize = 65536;
 // How many bytes of lines are collected at most.
 const TEXT: usize = 4096;
 
-type Progress = dayrun_progress::Progress<INPUT, TEXT>;
+type Buffers = dayrun_progress::Buffers<INPUT, TEXT>;
 
 // Writes the collected lines.
-fn write_lines<W: Write>(writer: &mut W, progress: &mut Progress)
-    ensures { Wrote progress.old progress.new }
+fn write_lines<W: Write>(writer: &mut W, buffers: &mut Buffers)
+    ensures { Wrote buffers.old buffers.new }
 {
-    let written = writer.write_all(progress.lines.as_slice()).is_ok();
-    progress.wrote(written);
+    let written = writer.write_all(buffers.lines.as_slice()).is_ok();
+    buffers.wrote(written);
 }
 
 // Whether the loop came to its end. A proved loop has to end, and nothing says that the input does: it takes a number of turns that no input uses up.
@@ -31,13 +31,13 @@ fn answer_all<R: Read, W: Write>(reader: &mut R, writer: &mut W, book: &mut Book
     requires { book_of book.old ≡ start_book }
     ensures { Loops INPUT TEXT result book.new }
 {
-    let mut progress = Progress::start();
+    let mut buffers = Buffers::start();
     for _turn in 0..u64::MAX {
-        let next = progress.what_next();
+        let next = buffers.what_next();
         match next {
-            Next::Take => stream::answer_next(book, &mut progress),
-            Next::Write => write_lines(writer, &mut progress),
-            Next::Read => progress.read_more(reader),
+            Next::Take => stream::answer_next(book, &mut buffers),
+            Next::Write => write_lines(writer, &mut buffers),
+            Next::Read => buffers.read_more(reader),
             Next::End => return true,
         }
     }

@@ -4,21 +4,27 @@
 mod unread;
 
 ghost use Rattle.std.specs.Prelude.{◌≡◌, ◌<◌, length};
-ghost use Rattle.dayrun_progress.specs.States.{answerable, ready, next_of, start_progress, wrote_progress, ReadsMore};
+ghost use Rattle.dayrun_progress.specs.States.{answerable, ready, next_of, start_buffers, wrote_buffers, ReadsMore};
 
 use arrayvec::ArrayVec;
 use std::io::Read;
 pub use unread::Unread;
 
-// The input that is read, the lines that wait to be written, and the position of the next record.
+// The position of the next record, and how far the program is.
 // `ended` says that the input has ended, `done` that the program has: a 1 was answered, or the lines couldn't be written.
-#[derive(Drop)]
-pub struct Progress<const ROOM: usize, const TEXT: usize> {
-    pub unread: Unread<ROOM>,
-    pub lines: ArrayVec<u8, TEXT>,
+#[derive(Clone, Copy)]
+pub struct Progress {
     pub position: u64,
     pub ended: bool,
     pub done: bool,
+}
+
+// The input that is read, the lines that wait to be written, and how far the program is with them.
+#[derive(Drop)]
+pub struct Buffers<const ROOM: usize, const TEXT: usize> {
+    pub unread: Unread<ROOM>,
+    pub lines: ArrayVec<u8, TEXT>,
+    pub progress: Progress,
 }
 
 // What the program does next: takes a record and answers it, writes the collected lines, reads, or ends. A closure for the step would be
@@ -31,27 +37,29 @@ pub enum Next {
     End,
 }
 
-impl<const ROOM: usize, const TEXT: usize> Progress<ROOM, TEXT> {
+impl<const ROOM: usize, const TEXT: usize> Buffers<ROOM, TEXT> {
     // Nothing is read yet, and the first position is 1.
     pub fn start() -> Self
-        ensures { result ≡ start_progress }
+        ensures { result ≡ start_buffers }
     {
-        Progress {
+        Buffers {
             unread: Unread::new(),
             lines: ArrayVec::new(),
-            position: 1,
-            ended: false,
-            done: false,
+            progress: Progress {
+                position: 1,
+                ended: false,
+                done: false,
+            },
         }
     }
 
     // The next record can be answered: any bytes once the input has ended, else a record that is settled.
     #[tactic(auto, unfolding(crate::specs::States::answerable))]
     fn is_answerable(&self) -> bool
-        ensures { result ≡ answerable self.now.ended self.now.unread }
+        ensures { result ≡ answerable self.now.progress.ended self.now.unread }
     {
         let bytes = self.unread.bytes();
-        if self.ended {
+        if self.progress.ended {
             !bytes.is_empty()
         } else {
             dayrun_settled::is_settled(bytes)
@@ -62,7 +70,9 @@ impl<const ROOM: usize, const TEXT: usize> Progress<ROOM, TEXT> {
     fn is_ready(&self) -> bool
         ensures { result ≡ ready self.now }
     {
-        !self.done && self.lines.remaining_capacity() >= lines::LINE && self.is_answerable()
+        !self.progress.done
+            && self.lines.remaining_capacity() >= lines::LINE
+            && self.is_answerable()
     }
 
     // It reads only where nothing is settled and nothing is collected.
@@ -74,7 +84,7 @@ impl<const ROOM: usize, const TEXT: usize> Progress<ROOM, TEXT> {
             Next::Take
         } else if !self.lines.is_empty() {
             Next::Write
-        } else if self.done || self.ended {
+        } else if self.progress.done || self.progress.ended {
             Next::End
         } else {
             Next::Read
@@ -83,10 +93,10 @@ impl<const ROOM: usize, const TEXT: usize> Progress<ROOM, TEXT> {
 
     // The collected lines were written. Where they couldn't be, the program is done.
     pub fn wrote(&mut self, written: bool)
-        ensures { self.new ≡ wrote_progress self.old written }
+        ensures { self.new ≡ wrote_buffers self.old written }
     {
         self.lines.clear();
-        self.done = self.done || !written;
+        self.progress.done = self.progress.done || !written;
     }
 
     // Reads once. No byte is the end of the input.
@@ -95,6 +105,6 @@ impl<const ROOM: usize, const TEXT: usize> Progress<ROOM, TEXT> {
         ensures { ReadsMore self.old self.new }
     {
         let count = self.unread.read_more(reader);
-        self.ended = count == 0;
+        self.progress.ended = count == 0;
     }
 }

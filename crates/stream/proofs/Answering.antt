@@ -8,23 +8,23 @@ use Rattle.rules.specs.declared.ReplyNumbers.{ReplyNumbers}
 use Rattle.cells.specs.View.{book_of}
 use Rattle.lines.specs.Text.{line_of}
 use Rattle.dayrun_records.specs.declared.Taken.{Taken}
-use Rattle.dayrun_progress.specs.declared.Progress.{Progress}
+use Rattle.dayrun_progress.specs.declared.Buffers.{Buffers}
 use Rattle.dayrun_records.specs.Records.{at_front, answer_of, length_of, Takes}
 use Rattle.dayrun_progress.specs.States.{collected}
 use Rattle.stream.specs.Input.{following}
 use Rattle.stream.specs.Running.{AnswersNext}
 
 -- the unread bytes are those behind the record
-abbrev pub TakenFrom : {room size : ℕ} → Progress room size → Result Taken Refusal → Progress room size → Answer → Type 0
-TakenFrom progress t r answer = (r ≡ record progress { unread = drop (length_of t) progress.unread }) × (answer ≡ answer_of t)
+abbrev pub TakenFrom : {room size : ℕ} → Buffers room size → Result Taken Refusal → Buffers room size → Answer → Type 0
+TakenFrom buffers t r answer = (r ≡ record buffers { unread = drop (length_of t) buffers.unread }) × (answer ≡ answer_of t)
 
-module _ {room size : ℕ} (before : List ℕ) (progress : Progress room size) (t : Result Taken Refusal) (after : List ℕ) (k : Takes before progress.unread t after)
-    (r : Progress room size) (answer : Answer) (u : TakenFrom progress t r answer) (n : ReplyNumbers) (e : said_numbers n ≡ said answer)
-    (lines : List ℕ) (h : lines ≡ collected r ++ line_of r.position (said_numbers n)) where
-  replied : said_numbers n ≡ (at_front (book_of before) progress.unread).reply
+module _ {room size : ℕ} (before : List ℕ) (buffers : Buffers room size) (t : Result Taken Refusal) (after : List ℕ) (k : Takes before buffers.unread t after)
+    (r : Buffers room size) (answer : Answer) (u : TakenFrom buffers t r answer) (n : ReplyNumbers) (e : said_numbers n ≡ said answer)
+    (lines : List ℕ) (h : lines ≡ collected r ++ line_of r.progress.position (said_numbers n)) where
+  replied : said_numbers n ≡ (at_front (book_of before) buffers.unread).reply
   replied = e ∙ ap said u.1 ∙ k.reply
 
-  pub answers_next : AnswersNext before progress (record r { lines = record { items = lines }; position = following r.position; done = eqb n.number 1 }) after
+  pub answers_next : AnswersNext before buffers (record r { lines = record { items = lines }; progress = record r.progress { position = following r.progress.position; done = eqb n.number 1 } }) after
   answers_next =
       record {
         book = k.book;

@@ -8,11 +8,11 @@ use Rattle.rules.specs.Records.{RecordReply, reader_refuses}
 use Rattle.rules.proofs.Records.{reading_by, readable}
 use Rattle.cells.specs.View.{book_of}
 use Rattle.lines.specs.Text.{line_of}
-use Rattle.dayrun_progress.specs.declared.Progress.{Progress}
+use Rattle.dayrun_progress.specs.declared.Buffers.{Buffers}
 use Rattle.dayrun_progress.specs.declared.Next.TheVariants.{Take, Read}
 use Rattle.dayrun_records.specs.Records.{Outcome, start_book, at_front}
 use Rattle.dayrun_settled.specs.Settled.{Bytes}
-use Rattle.dayrun_progress.specs.States.{collected, answerable, wrote_progress, received_progress}
+use Rattle.dayrun_progress.specs.States.{collected, answerable, wrote_buffers, received_buffers}
 use Rattle.stream.specs.Input.{following, lines_in, lines_of}
 use Rattle.stream.specs.Running.{AnswersNext, State, next_in, Reaches, begins, answers, writes, reads, WritesAll, WritesAtOnce, WaitsWhereOpen}
 use Rattle.dayrun_records.proofs.Taking.{front_read, front_refused}
@@ -109,39 +109,39 @@ or_false false = refl
 
 -- what is still to be printed, of the state and what follows its unread bytes
 abbrev left : {room size : ℕ} → Bool → State room size → List ℕ → List ℕ
-left e st rest = cond st.progress.done [] (lines_of e (book_of st.cells) st.progress.position (st.progress.unread ++ rest))
+left e st rest = cond st.buffers.progress.done [] (lines_of e (book_of st.cells) st.buffers.progress.position (st.buffers.unread ++ rest))
 
 -- the lines of the input and what follows it are those written, those collected and those still to come
 abbrev Kept : {room size : ℕ} → List ℕ → List ℕ → State room size → Type 0
 Kept input written st =
-    (e : Bool) (rest : List ℕ) → Allowed st.progress.ended e rest
-    → lines_of e start_book 1 (input ++ rest) ≡ written ++ (collected st.progress ++ left e st rest)
+    (e : Bool) (rest : List ℕ) → Allowed st.buffers.progress.ended e rest
+    → lines_of e start_book 1 (input ++ rest) ≡ written ++ (collected st.buffers ++ left e st rest)
 
 module _ {room size : ℕ} (input written : List ℕ) (st : State room size) (kept : Kept input written st) where
   abbrev outcome : Outcome
-  outcome = at_front (book_of st.cells) st.progress.unread
+  outcome = at_front (book_of st.cells) st.buffers.unread
 
-  kept_answer : (r : Progress room size) (after : List ℕ) → next_in st ≡ Take → AnswersNext st.cells st.progress r after → Kept input written (record { cells = after; progress = r })
+  kept_answer : (r : Buffers room size) (after : List ℕ) → next_in st ≡ Take → AnswersNext st.cells st.buffers r after → Kept input written (record { cells = after; buffers = r })
   kept_answer r after t a e rest al =
-      let h = answering st.progress t in
-      let allowed : Allowed st.progress.ended e rest = rw a.moved at al in
-      let same = answer_same st.progress.ended e st.progress.unread rest allowed a.bytes h.known in
+      let h = answering st.buffers t in
+      let allowed : Allowed st.buffers.progress.ended e rest = rw a.moved at al in
+      let same = answer_same st.buffers.progress.ended e st.buffers.unread rest allowed a.bytes h.known in
       let b : Book = book_of st.cells in
-      let k : ℕ = st.progress.position in
+      let k : ℕ = st.buffers.progress.position in
       let line : List ℕ = line_of k outcome.reply in
-      let next : lines_of e b k (st.progress.unread ++ rest)
-      ≡ line ++ cond (eqb outcome.reply.number 1) [] (lines_of e outcome.book (following k) (drop outcome.length st.progress.unread ++ rest))
-      = lines_next e b k (st.progress.unread ++ rest) same.0 ∙ rw (same.1 b, drop-append-le outcome.length st.progress.unread rest (front_size b st.progress.unread).1) in
-      rw (a.book, a.moved, append_assoc (collected st.progress) line _, ← next) (rw h.going at (kept e rest allowed))
+      let next : lines_of e b k (st.buffers.unread ++ rest)
+      ≡ line ++ cond (eqb outcome.reply.number 1) [] (lines_of e outcome.book (following k) (drop outcome.length st.buffers.unread ++ rest))
+      = lines_next e b k (st.buffers.unread ++ rest) same.0 ∙ rw (same.1 b, drop-append-le outcome.length st.buffers.unread rest (front_size b st.buffers.unread).1) in
+      rw (a.book, a.moved, append_assoc (collected st.buffers) line _, ← next) (rw h.going at (kept e rest allowed))
 
-  kept_write : Kept input (written ++ collected st.progress) (record st { progress = wrote_progress st.progress true })
-  kept_write e rest al = rw (or_false st.progress.done, append_assoc written (collected st.progress) (left e st rest)) (kept e rest al)
+  kept_write : Kept input (written ++ collected st.buffers) (record st { buffers = wrote_buffers st.buffers true })
+  kept_write e rest al = rw (or_false st.buffers.progress.done, append_assoc written (collected st.buffers) (left e st rest)) (kept e rest al)
 
-  kept_read : (more : List ℕ) → next_in st ≡ Read → Kept (input ++ more) written (record st { progress = received_progress st.progress more })
+  kept_read : (more : List ℕ) → next_in st ≡ Read → Kept (input ++ more) written (record st { buffers = received_buffers st.buffers more })
   kept_read more t e rest al =
-      let h = reading_on st.progress t in
-      let opened : Allowed st.progress.ended e (more ++ rest) = λ q. absurd (true≢false (sym q ∙ h.open_input)) in
-      rw (append_assoc input more rest, append_assoc st.progress.unread more rest) (kept e (more ++ rest) opened)
+      let h = reading_on st.buffers t in
+      let opened : Allowed st.buffers.progress.ended e (more ++ rest) = λ q. absurd (true≢false (sym q ∙ h.open_input)) in
+      rw (append_assoc input more rest, append_assoc st.buffers.unread more rest) (kept e (more ++ rest) opened)
 
 kept : {room size : ℕ} {input written : List ℕ} {st : State room size} → Reaches input written st → Kept input written st
 kept (begins cells b) = λ e rest al. rw b refl
@@ -151,24 +151,24 @@ kept (reads {input} {written} {st} more s t) = kept_read input written st (kept 
 
 pub writes_at_once : WritesAtOnce
 writes_at_once room size input written st room_for_line s t =
-    let h = reading_on st.progress t in
-    let unknown = unanswered st.progress room_for_line t in
-    let none = lines_none false (book_of st.cells) st.progress.position st.progress.unread (rw h.open_input at unknown) in
-    sym (rw (append-nil input, append-nil st.progress.unread, h.empty, h.going, none, append-nil written) at (kept s false [] (λ q. absurd (true≢false (sym q ∙ h.open_input)))))
+    let h = reading_on st.buffers t in
+    let unknown = unanswered st.buffers room_for_line t in
+    let none = lines_none false (book_of st.cells) st.buffers.progress.position st.buffers.unread (rw h.open_input at unknown) in
+    sym (rw (append-nil input, append-nil st.buffers.unread, h.empty, h.going, none, append-nil written) at (kept s false [] (λ q. absurd (true≢false (sym q ∙ h.open_input)))))
 
 pub waits_where_open : WaitsWhereOpen
 unfolding answerable
 waits_where_open room size st room_for_line t =
-    let unknown = unanswered st.progress room_for_line t in
-    unsettled_open st.progress.unread (rw (reading_on st.progress t).open_input at unknown)
+    let unknown = unanswered st.buffers room_for_line t in
+    unsettled_open st.buffers.unread (rw (reading_on st.buffers t).open_input at unknown)
 
 -- nothing is left where the program is done, or no byte is
-none_left : {room size : ℕ} (st : State room size) (rest : List ℕ) → (st.progress.ended ≡ true → rest ≡ [])
-    → (st.progress.done ≡ true) ⊎ ((st.progress.ended ≡ true) × (answerable st.progress.ended st.progress.unread ≡ false)) → left true st rest ≡ []
+none_left : {room size : ℕ} (st : State room size) (rest : List ℕ) → (st.buffers.progress.ended ≡ true → rest ≡ [])
+    → (st.buffers.progress.done ≡ true) ⊎ ((st.buffers.progress.ended ≡ true) × (answerable st.buffers.progress.ended st.buffers.unread ≡ false)) → left true st rest ≡ []
 none_left st rest last (inl d) = rw d refl
 none_left st rest last (inr (e, a)) =
-    let none = lines_none true (book_of st.cells) st.progress.position st.progress.unread (rw e at a) in
-    rw (last e, append-nil st.progress.unread, none) (either st.progress.done)
+    let none = lines_none true (book_of st.cells) st.buffers.progress.position st.buffers.unread (rw e at a) in
+    rw (last e, append-nil st.buffers.unread, none) (either st.buffers.progress.done)
   where
     either : (d : Bool) → cond {A = List ℕ} d [] [] ≡ []
     either true = refl
@@ -176,5 +176,5 @@ none_left st rest last (inr (e, a)) =
 
 pub writes_all : WritesAll
 writes_all room size input written rest st room_for_line s t last =
-    let h = ending st.progress room_for_line t in
+    let h = ending st.buffers room_for_line t in
     sym (kept s true rest (λ q. (refl, last q)) ∙ rw (h.empty, none_left st rest last h.over) (append-nil written))

@@ -4,9 +4,10 @@ use Rattle.std.specs.Prelude.{◌≡◌, ℕ, ◌≤◌, true, false, List, [], 
 use Rattle.cells.specs.View.{book_of}
 use Rattle.lines.specs.Text.{line_size, line_of}
 use Rattle.dayrun_progress.specs.declared.Progress.{Progress}
+use Rattle.dayrun_progress.specs.declared.Buffers.{Buffers}
 use Rattle.dayrun_progress.specs.declared.Next.{Next}
 use Rattle.dayrun_progress.specs.declared.Next.TheVariants.{Take, Write, Read, End}
-use Rattle.dayrun_progress.specs.States.{collected, next_of, start_progress, wrote_progress, received_progress}
+use Rattle.dayrun_progress.specs.States.{collected, next_of, start_buffers, wrote_buffers, received_buffers}
 use Rattle.dayrun_records.specs.Records.{Outcome, start_book, at_front}
 use Rattle.dayrun_settled.specs.Settled.{Bytes, Open}
 use Rattle.stream.specs.Input.{following, lines_of, printed}
@@ -14,49 +15,51 @@ use Rattle.stream.specs.Input.{following, lines_of, printed}
 -- ---- a record
 
 -- after a record with this outcome was answered: a 1 is the last
-abbrev pub answered_progress : {room size : ℕ} → Progress room size → Outcome → Progress room size
-answered_progress progress a =
-    record progress {
-      unread = drop a.length progress.unread;
-      lines = record { items = collected progress ++ line_of progress.position a.reply };
-      position = following progress.position;
-      done = (a.reply.number == 1);
+abbrev pub answered_progress : Progress → Outcome → Progress
+answered_progress progress a = record progress { position = following progress.position; done = (a.reply.number == 1) }
+
+abbrev pub answered_buffers : {room size : ℕ} → Buffers room size → Outcome → Buffers room size
+answered_buffers buffers a =
+    record buffers {
+      unread = drop a.length buffers.unread;
+      lines = record { items = collected buffers ++ line_of buffers.progress.position a.reply };
+      progress = answered_progress buffers.progress a;
     }
 
 -- the next record is answered, and its line collected
-pub record AnswersNext {room size : ℕ} (before : List ℕ) (progress r : Progress room size) (after : List ℕ) : Type 0 where
-  pub book : book_of after ≡ (at_front (book_of before) progress.unread).book
-  pub moved : r ≡ answered_progress progress (at_front (book_of before) progress.unread)
-  pub bytes : Bytes progress.unread
+pub record AnswersNext {room size : ℕ} (before : List ℕ) (buffers r : Buffers room size) (after : List ℕ) : Type 0 where
+  pub book : book_of after ≡ (at_front (book_of before) buffers.unread).book
+  pub moved : r ≡ answered_buffers buffers (at_front (book_of before) buffers.unread)
+  pub bytes : Bytes buffers.unread
 
 -- ---- steps in a row
 
--- the cells of the book, and the progress, with this room for input and for lines
+-- the cells of the book, and the buffers with the progress, with this room for input and for lines
 pub record State (room size : ℕ) : Type 0 where
   pub cells : List ℕ
-  pub progress : Progress room size
+  pub buffers : Buffers room size
 
 -- what comes next there
 abbrev pub next_in : {room size : ℕ} → State room size → Next
-next_in st = next_of st.progress
+next_in st = next_of st.buffers
 
 -- the states that steps lead to, each with the promise of its function: what was read of the input so far, what was written, the state.
 -- A read brings as many bytes as it likes
 pub data Reaches {room size : ℕ} : List ℕ → List ℕ → State room size → Type 0 where
-  begins : (cells : List ℕ) → book_of cells ≡ start_book → Reaches [] [] (record { cells = cells; progress = start_progress })
-  answers : {input written : List ℕ} {st : State room size} (r : Progress room size) (after : List ℕ) → Reaches input written st → next_in st ≡ Take
-      → AnswersNext st.cells st.progress r after
-      → Reaches input written (record { cells = after; progress = r })
+  begins : (cells : List ℕ) → book_of cells ≡ start_book → Reaches [] [] (record { cells = cells; buffers = start_buffers })
+  answers : {input written : List ℕ} {st : State room size} (r : Buffers room size) (after : List ℕ) → Reaches input written st → next_in st ≡ Take
+      → AnswersNext st.cells st.buffers r after
+      → Reaches input written (record { cells = after; buffers = r })
   writes : {input written : List ℕ} {st : State room size} → Reaches input written st → next_in st ≡ Write
-      → Reaches input (written ++ collected st.progress) (record st { progress = wrote_progress st.progress true })
+      → Reaches input (written ++ collected st.buffers) (record st { buffers = wrote_buffers st.buffers true })
   reads : {input written : List ℕ} {st : State room size} (more : List ℕ) → Reaches input written st → next_in st ≡ Read
-      → Reaches (input ++ more) written (record st { progress = received_progress st.progress more })
+      → Reaches (input ++ more) written (record st { buffers = received_buffers st.buffers more })
 
 -- where a line fits the room for lines, all lines of the whole input are written at the end; where the program ended by itself, there may be a rest that it didn't read
 abbrev pub WritesAll : Type 0
 WritesAll =
     (room size : ℕ) (input written rest : List ℕ) (st : State room size) → line_size ≤ size → Reaches input written st → next_in st ≡ End
-    → (st.progress.ended ≡ true → rest ≡ []) → written ≡ printed start_book 1 (input ++ rest)
+    → (st.buffers.progress.ended ≡ true → rest ≡ []) → written ≡ printed start_book 1 (input ++ rest)
 
 -- before each read, the lines of all records that are settled are written, and no others
 abbrev pub WritesAtOnce : Type 0
@@ -66,7 +69,7 @@ WritesAtOnce =
 
 -- and the bytes that are left may still become a record
 abbrev pub WaitsWhereOpen : Type 0
-WaitsWhereOpen = (room size : ℕ) (st : State room size) → line_size ≤ size → next_in st ≡ Read → Open st.progress.unread
+WaitsWhereOpen = (room size : ℕ) (st : State room size) → line_size ≤ size → next_in st ≡ Read → Open st.buffers.unread
 
 -- ---- the example of document 01
 
@@ -98,4 +101,4 @@ ExamplePrinted = printed start_book 1 example_input ≡ example_text
 abbrev pub ExampleWritten : Type 0
 ExampleWritten =
     (room size : ℕ) (input written rest : List ℕ) (st : State room size) → line_size ≤ size → Reaches input written st → next_in st ≡ End
-    → (st.progress.ended ≡ true → rest ≡ []) → input ++ rest ≡ example_input → written ≡ example_text
+    → (st.buffers.progress.ended ≡ true → rest ≡ []) → input ++ rest ≡ example_input → written ≡ example_text

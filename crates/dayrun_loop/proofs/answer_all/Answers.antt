@@ -8,7 +8,7 @@ use Rattle.dayrun_loop.proofs.answer_all.Goals as goal
 use Rattle.dayrun_loop.proofs.answer_all.Goals.{in-Take, in-Write, in-Read}
 
 pub loop-turn-init : goal.loop-turn-init
-loop-turn-init g c = rw c.start-progress.ensures (none _ c.requires)
+loop-turn-init g c = rw c.start-buffers.ensures (none _ c.requires)
 
 pub answer_next-requires : goal.answer_next-requires
 answer_next-requires g c = let h = answering _ (sym c.what_next-next.ensures ∙ c.in-Take.is) in omega arith
@@ -21,16 +21,16 @@ loop-turn-preserved g c =
     let turns = c.loop-turn.invariant in
     let next = sym c.what_next-next.ensures in
     elim c.match-next.branch [
-      | in-Take w ↦ rw (w.book-is, w.progress-is) (one_more _ _ _ _ turns (next ∙ w.in-Take.is) (taking _ _ _ w.answer_next.ensures))
-      | in-Write w ↦ rw (w.book-is, w.progress-is) (one_more _ _ _ _ turns (next ∙ w.in-Write.is) (writing _ _ w.write_lines.ensures))
-      | in-Read w ↦ rw (w.book-is, w.progress-is) (one_more _ _ _ _ turns (next ∙ w.in-Read.is) (reading _ _ w.read_more.ensures))
+      | in-Take w ↦ rw (w.book-is, w.buffers-is) (one_more _ _ _ _ turns (next ∙ w.in-Take.is) (taking _ _ _ w.answer_next.ensures))
+      | in-Write w ↦ rw (w.book-is, w.buffers-is) (one_more _ _ _ _ turns (next ∙ w.in-Write.is) (writing _ _ w.write_lines.ensures))
+      | in-Read w ↦ rw (w.book-is, w.buffers-is) (one_more _ _ _ _ turns (next ∙ w.in-Read.is) (reading _ _ w.read_more.ensures))
     ]
 
 pub returns-in-End : goal.returns-in-End
 returns-in-End g c =
     record {
       room_for_line = omega arith;
-      progress = c.loop-turn.progress;
+      buffers = c.loop-turn.buffers;
       turns = c.loop-turn._turn;
       taken = c.loop-turn.invariant;
       arrives = arrives _ _ c.loop-turn.invariant;
@@ -42,7 +42,7 @@ pub returns : goal.returns
 returns g c =
     record {
       room_for_line = omega arith;
-      progress = c.loop-turn.progress;
+      buffers = c.loop-turn.buffers;
       turns = c.loop-turn._turn;
       taken = c.loop-turn.invariant;
       arrives = arrives _ _ c.loop-turn.invariant;

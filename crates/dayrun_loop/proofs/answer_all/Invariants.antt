@@ -3,4 +3,4 @@ use Rattle.dayrun_loop.specs.Steps.{state_of, Turns}
 use Rattle.dayrun_loop.proofs.answer_all.Given as goal
 
 abbrev pub invariant-loop-turn : goal.invariant-loop-turn
-invariant-loop-turn g l = Turns l._turn (state_of l.book l.progress)
+invariant-loop-turn g l = Turns l._turn (state_of l.book l.buffers)

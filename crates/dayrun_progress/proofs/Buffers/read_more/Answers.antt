@@ -1,7 +1,7 @@
--- `Progress::read_more` meets its contract.
+-- `Buffers::read_more` meets its contract.
 -- Assumes nothing.
 use Rattle.std.proofs.Common.{refl, length-take-le}
-use Rattle.dayrun_progress.proofs.Progress.read_more.Goals as goal
+use Rattle.dayrun_progress.proofs.Buffers.read_more.Goals as goal
 
 pub returns : goal.returns
 returns g c =
