@@ -102,7 +102,7 @@ pub fn party_unknown(book: &Book, party: u8) -> bool
 pub fn direction_in(book: &Book, direction: u8) -> Option<Direction>
     ensures { FindsDirection (book_of book.now) direction result }
 {
-    let row = cells::DIRECTIONS.rows(book).get(direction as usize)?;
+    let row = cells::directions(book).get(direction as usize)?;
     Some(Direction::from(*row))
 }
 
@@ -120,7 +120,7 @@ pub fn session_in(book: &Book, direction: u8, session: Session) -> Option<DaySes
 pub fn access_in(book: &Book, party: u8) -> Option<u32>
     ensures { FindsAccess (book_of book.now) party result }
 {
-    let row = cells::PARTIES.rows(book).get(party as usize)?;
+    let row = cells::parties(book).get(party as usize)?;
     Some(row[16])
 }
 
@@ -137,7 +137,7 @@ fn mw_of(row: &[u32; 8]) -> [u32; 5]
 pub fn right_in(book: &Book, right: u16) -> Option<RightRead>
     ensures { FindsRight (book_of book.now) right result }
 {
-    let row = cells::RIGHTS.rows(book).get(right as usize)?;
+    let row = cells::rights(book).get(right as usize)?;
     let key = RightKey::of_row(row);
     Some(RightRead {
         holder: key.holder,

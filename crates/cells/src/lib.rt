@@ -2,8 +2,8 @@
 #![tactic(auto)]
 
 ghost use Rattle.std.specs.Prelude.{◌≡◌, ◌+◌, ◌*◌, ◌<◌, ◌≤◌, nat_le};
-ghost use Rattle.rules.specs.Book.{flag};
-ghost use Rattle.cells.specs.Layout.{CELLS};
+ghost use Rattle.rules.specs.Book.{flag, direction_limit, party_limit, right_limit, pair_limit};
+ghost use Rattle.cells.specs.Layout.{CELLS, DIRECTIONS, PARTIES, RIGHTS, PAIRS};
 ghost use Rattle.cells.specs.View.{InHour, Places, counted, rows_in, day_hours_in, started_in, weekday_in, clock_in};
 
 use day::Day;
@@ -135,12 +135,20 @@ pub fn is_started(book: &Book) -> bool
     book[STARTED] != 0
 }
 
+// How many rows the table at this cell has: a count past the limit is read as that of a full table.
+pub fn count_in(book: &Book, table: usize, limit: u32) -> u32
+    requires { table < CELLS }
+    ensures { result ≡ counted book.now table limit }
+{
+    book[table].min(limit)
+}
+
 impl<const WIDTH: usize> Table<WIDTH> {
-    // How many rows it has: a count past its limit is read as that of a full table.
+    // How many rows it has.
     pub fn count(&self, book: &Book) -> u32
         ensures { result ≡ counted book.now self.now.at self.now.limit }
     {
-        book[self.at].min(self.limit)
+        count_in(book, self.at, self.limit)
     }
 
     // It has no room for a row more.
@@ -168,6 +176,32 @@ impl<const WIDTH: usize> Table<WIDTH> {
     {
         self.at + 1 + i as usize * WIDTH
     }
+}
+
+// ---- the rows of each table, where `Layout` has them
+
+pub fn directions(book: &Book) -> &[[u32; 3]]
+    ensures { result.now ≡ rows_in book.now DIRECTIONS 3 direction_limit }
+{
+    DIRECTIONS.rows(book)
+}
+
+pub fn parties(book: &Book) -> &[[u32; 17]]
+    ensures { result.now ≡ rows_in book.now PARTIES 17 party_limit }
+{
+    PARTIES.rows(book)
+}
+
+pub fn rights(book: &Book) -> &[[u32; 8]]
+    ensures { result.now ≡ rows_in book.now RIGHTS 8 right_limit }
+{
+    RIGHTS.rows(book)
+}
+
+pub fn pairs(book: &Book) -> &[[u32; 13]]
+    ensures { result.now ≡ rows_in book.now PAIRS 13 pair_limit }
+{
+    PAIRS.rows(book)
 }
 
 // Where the flag of a direction's session stands among the matched sessions.

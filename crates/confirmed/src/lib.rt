@@ -43,7 +43,7 @@ pub fn confirmed_of(book: &Book, right: u16, out: u8, into: u8) -> Result<[u32; 
     if !tables::is_matched(book, held.direction, held.session) {
         return Err(Refusal::Cycle);
     }
-    let row = &cells::PAIRS.rows(book)[number as usize];
+    let row = &cells::pairs(book)[number as usize];
     let totals = totals::sums_of(book, right as u32);
     Ok(confirmed_five(held.mw, totals, PairLower::of_row(row).lower))
 }

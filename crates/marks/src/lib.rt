@@ -28,7 +28,7 @@ fn side_totals(book: &Book, right: u32, side: Side) -> [u64; 5]
     ensures { result ≡ totals_of right (side_number side) (book_of book.now).pairs }
 {
     let mut sums = [0; 5];
-    for row in cells::PAIRS.rows(book) {
+    for row in cells::pairs(book) {
         if row[0] == right {
             // By `next`, as in `totals`.
             let next = totals::plus(sums, side_mw(row, side));

@@ -61,7 +61,7 @@ fn is_right_of_session(row: &[u32; 8], direction: u8, session: Session) -> bool
 fn count_rights(book: &Book, direction: u8, session: Session) -> u32
     ensures { result ≡ count_rights direction session.0 (book_of book.now).rights }
 {
-    let rows = cells::RIGHTS.rows(book);
+    let rows = cells::rights(book);
     let count = rows
         .iter()
         .filter(|row| is_right_of_session(row, direction, session))

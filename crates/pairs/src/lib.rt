@@ -42,7 +42,7 @@ impl PairKey {
 pub fn standing_pair(book: &Book, key: PairKey) -> Option<u32>
     ensures { result ≡ standing_pair book.now key }
 {
-    let rows = cells::PAIRS.rows(book);
+    let rows = cells::pairs(book);
     let number = rows.iter().position(|row| PairKey::of_row(row) == key)?;
     Some(number as u32)
 }
@@ -67,7 +67,7 @@ fn open_pair(book: &mut Book, key: PairKey) -> u32
     ensures { NewPair book.old key result book.new }
 {
     let row = [key.right, key.out, key.into, 0, 0, 0, 0, 0, 0, 0, 0, 0, 0];
-    stores::add_row(book, &cells::PAIRS, &row)
+    stores::place_row(book, &cells::PAIRS, &row)
 }
 
 // The number of the pair that the verdict found, or of a new one.

@@ -52,7 +52,7 @@ fn same_code(row: &[u32; 17], code: [u8; 16]) -> bool
 fn code_taken(book: &Book, code: [u8; 16]) -> bool
     ensures { result ≡ code_taken code (book_of book.now).parties }
 {
-    let rows = cells::PARTIES.rows(book);
+    let rows = cells::parties(book);
     rows.iter().any(|row| same_code(row, code))
 }
 
@@ -78,5 +78,5 @@ pub fn add_party(book: &mut Book, party: Party) -> Answer
     ensures { Answers book.old (AddParty party.code party.access) result book.new }
 {
     party_verdict(book, party)?;
-    Ok(stores::add_row(book, &cells::PARTIES, &party.row()))
+    Ok(stores::place_row(book, &cells::PARTIES, &party.row()))
 }

@@ -17,7 +17,7 @@ use tables::RightKey;
 fn standing(book: &Book, key: RightKey) -> Option<u32>
     ensures { result ≡ standing_right book.now key }
 {
-    let rows = cells::RIGHTS.rows(book);
+    let rows = cells::rights(book);
     let number = rows.iter().position(|row| RightKey::of_row(row) == key)?;
     Some(number as u32)
 }
@@ -90,5 +90,5 @@ fn open_right(book: &mut Book, key: RightKey, mw: [u16; 5]) -> u32
         fourth,
         fifth,
     ];
-    stores::add_row(book, &cells::RIGHTS, &row)
+    stores::place_row(book, &cells::RIGHTS, &row)
 }

@@ -53,7 +53,7 @@ fn direction_clashes(standing: Direction, direction: Direction) -> bool
 fn direction_taken(book: &Book, direction: Direction) -> bool
     ensures { result ≡ direction_taken direction.out direction.into direction.model (book_of book.now).directions }
 {
-    let rows = cells::DIRECTIONS.rows(book);
+    let rows = cells::directions(book);
     rows.iter()
         .any(|row| direction_clashes(Direction::from(*row), direction))
 }
@@ -81,7 +81,7 @@ pub fn add_direction(book: &mut Book, direction: Direction) -> Answer
 {
     direction_verdict(book, direction)?;
     let row = [direction.out, direction.into, direction.model];
-    Ok(stores::add_row(book, &cells::DIRECTIONS, &row))
+    Ok(stores::place_row(book, &cells::DIRECTIONS, &row))
 }
 
 // ---- profiles
@@ -122,5 +122,5 @@ pub fn add_profile(book: &mut Book, map: u32) -> Answer
 {
     profile_verdict(book, map)?;
     let row = [map];
-    Ok(stores::add_row(book, &cells::PROFILES, &row))
+    Ok(stores::place_row(book, &cells::PROFILES, &row))
 }

@@ -1,9 +1,9 @@
 // The stores in the cells of a day book that the calls share.
 #![tactic(auto)]
 
-ghost use Rattle.std.specs.Prelude.{◌≡◌, ◌+◌, ◌<◌, ◌≤◌, length, set, MatchOption};
+ghost use Rattle.std.specs.Prelude.{◌≡◌, ◌+◌, ◌*◌, ◌<◌, ◌≤◌, length, set, MatchOption};
 ghost use Rattle.rules.specs.Book.{place, flag, direction_limit};
-ghost use Rattle.cells.specs.Layout.{OFFERED, MATCHED};
+ghost use Rattle.cells.specs.Layout.{CELLS, OFFERED, MATCHED};
 ghost use Rattle.cells.specs.View.{counted};
 ghost use Rattle.stores.specs.Stores.{clocked, emptied, with_row};
 
@@ -52,8 +52,19 @@ pub fn clear(book: &mut Book, date: Option<Date>, day: Day)
     book[cells::WEEKDAY] = day.weekday;
 }
 
-// The last row of a table, by its number; the table's count becomes the number and 1. Takes any slice of the table's width: an array would ask more of callers.
+// A row more in the table at a cell, after its first `count` rows, which are as long.
 #[tactic(auto, using(rules::proofs::Stores::copied), unfolding(crate::specs::Stores::with_row))]
+pub fn add_row(book: &mut Book, table: usize, count: u32, row: &[u32])
+    requires few { count < CELLS }
+    requires room { table + 1 + (count * length row.now + length row.now) ≤ CELLS }
+    ensures { book.new ≡ with_row table count row.now book.old }
+{
+    let first = table + 1 + count as usize * row.len();
+    book[first..first + row.len()].copy_from_slice(row);
+    book[table] = count + 1;
+}
+
+// The last row of a table, by its number; the table's count becomes the number and 1. Takes any slice of the table's width: an array would ask more of callers.
 pub fn set_last_row<const WIDTH: usize>(
     book: &mut Book,
     table: &Table<WIDTH>,
@@ -64,13 +75,15 @@ pub fn set_last_row<const WIDTH: usize>(
     requires room { number < table.now.limit }
     ensures { book.new ≡ with_row table.now.at number row.now book.old }
 {
-    let first = table.row(number);
-    book[first..first + row.len()].copy_from_slice(row);
-    book[table.at] = number + 1;
+    add_row(book, table.at, number, row);
 }
 
 // A row more in a table that has room: its number. No value carries that it has room: that is a fact of the cells as they are before the store.
-pub fn add_row<const WIDTH: usize>(book: &mut Book, table: &Table<WIDTH>, row: &[u32; WIDTH]) -> u32
+pub fn place_row<const WIDTH: usize>(
+    book: &mut Book,
+    table: &Table<WIDTH>,
+    row: &[u32; WIDTH],
+) -> u32
     requires { counted book.old table.now.at table.now.limit < table.now.limit }
     ensures number { result ≡ counted book.old table.now.at table.now.limit }
     ensures cells { book.new ≡ with_row table.now.at result row.now book.old }

@@ -61,7 +61,7 @@ fn pairs_of(book: &Book, right: u32) -> ArrayVec<PairLower, MOST>
     ensures { Gathered book.now right result.items }
 {
     let mut list = ArrayVec::new();
-    for row in cells::PAIRS.rows(book) {
+    for row in cells::pairs(book) {
         if row[0] == right {
             list.push(PairLower::of_row(row));
         }

@@ -6,4 +6,4 @@ use Rattle.answers.proofs.access_in.Goals as goal
 
 pub returns : goal.returns
 returns c = let found = c.in_ok-row.ensures.lookup in
-    access_found _ _ _ c.rows.ensures _ (true-ltb _ _ found.0) found.1
+    access_found _ _ _ c.parties.ensures _ (true-ltb _ _ found.0) found.1

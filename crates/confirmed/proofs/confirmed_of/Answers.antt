@@ -38,8 +38,8 @@ returns-then-not-is_matched c =
     let pair = there (goal.at.returns-then-not-is_matched c).In_ok-number in
     record { reply = not_matched (book_of c.args.book.now) _ _ _ found.0 pair.there (rw found.1 at (sym c.if-not-is_matched.ensures)) }
 
-pub bounds-rows-number : goal.bounds-rows-number
-bounds-rows-number c = row_there _ _ _ c.rows.ensures (there (goal.at.bounds-rows-number c).In_ok-number).row
+pub bounds-pairs-number : goal.bounds-pairs-number
+bounds-pairs-number c = row_there _ _ _ c.pairs.ensures (there (goal.at.bounds-pairs-number c).In_ok-number).row
 
 pub returns : goal.returns
 returns c =
@@ -47,5 +47,5 @@ returns c =
     let pair = there (goal.at.returns c).In_ok-number in
     record {
       reply = granted_read (book_of c.args.book.now) _ _ _ found.0 pair.there (rw found.1 at (sym c.if-not-is_matched.ensures)) _
-          (c.confirmed_five.ensures ∙ hours_are _ _ _ c.rows.ensures pair.row _ _ _ _ _ _ (ap (λ (x : RightRead). x.mw) found.1) c.sums_of-totals.ensures c.of_row.ensures pair.pair_is);
+          (c.confirmed_five.ensures ∙ hours_are _ _ _ c.pairs.ensures pair.row _ _ _ _ _ _ (ap (λ (x : RightRead). x.mw) found.1) c.sums_of-totals.ensures c.of_row.ensures pair.pair_is);
     }

@@ -14,7 +14,7 @@ loop-row-init c = none_summed _ _ _
 
 pub plus-next-requires : goal.plus-next-requires
 plus-next-requires c =
-    let few : length c.rows-row-items.result.now ≤ pair_limit = rw c.rows-row-items.ensures (few_rows c.args.book.now PAIRS 13 pair_limit) in
+    let few : length c.pairs-row-items.result.now ≤ pair_limit = rw c.pairs-row-items.ensures (few_rows c.args.book.now PAIRS 13 pair_limit) in
     most_fits _ _ _ c.loop-row.invariant.most (omega arith)
 
 pub loop-row-preserved : goal.loop-row-preserved
@@ -24,4 +24,4 @@ loop-row-preserved c = elim c.if-row-right.branch [
 ]
 
 pub returns : goal.returns
-returns c = all_summed _ _ _ _ _ c.rows-row-items.ensures c.loop-row-test.false c.loop-row.invariant
+returns c = all_summed _ _ _ _ _ c.pairs-row-items.ensures c.loop-row-test.false c.loop-row.invariant

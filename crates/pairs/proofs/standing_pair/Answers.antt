@@ -14,7 +14,7 @@ use Rattle.pairs.proofs.standing_pair.Goals as goal
 found : (c : After-position) → c.position.result ≡ standing_pair c.args.book.now c.args.key
 unfolding is_pair_of
 found c =
-    row_found c.args.book.now c.args.key c.rows-rows.ensures
+    row_found c.args.book.now c.args.key c.pairs-rows.ensures
     (position_from_yields_List (λ row. is_pair c.args.key (pair_read row)) _ _ _ c.position.ensures.ran (YieldsList-from_slice _ c.iter.ensures.rest) (λ x b q k. search (rules, tests)))
 
 pub returns-in_err-number : goal.returns-in_err-number

@@ -10,8 +10,8 @@ use Rattle.parties.proofs.add_party.Goals as goal
 pub returns-in_err-party_verdict : goal.returns-in_err-party_verdict
 returns-in_err-party_verdict c = let p = err_from_is_err_and c.from_residual.result c.from_residual.ensures.1 in rw (p.1, p.2) (refused _ _ _ c.in_err-party_verdict.ensures)
 
-pub add_row-requires : goal.add_row-requires
-add_row-requires c = let l = room (adds_party _ _ _ _ (search rules) c.row.ensures) c.in_ok-party_verdict.ensures in search rules
+pub place_row-requires : goal.place_row-requires
+place_row-requires c = let l = room (adds_party _ _ _ _ (search rules) c.row.ensures) c.in_ok-party_verdict.ensures in search rules
 
 pub returns : goal.returns
-returns c = answers_number (adds_party _ _ _ _ (search rules) c.row.ensures) c.in_ok-party_verdict.ensures (lent_cells c.told-book c.fits-book) c.add_row.ensures.number c.add_row.ensures.cells
+returns c = answers_number (adds_party _ _ _ _ (search rules) c.row.ensures) c.in_ok-party_verdict.ensures (lent_cells c.told-book c.fits-book) c.place_row.ensures.number c.place_row.ensures.cells

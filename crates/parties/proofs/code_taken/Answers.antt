@@ -14,5 +14,5 @@ pub returns : goal.returns
 unfolding code_taken
 returns c =
     let test = same_code c.args.code in
-    any_from_yields_List (λ row. test (party_read row)) _ _ _ c.any.ensures.ran (YieldsList-from_slice c.rows-rows.result.now c.iter.ensures.rest) (λ x b q k. (search rules, search (rules, tests)))
-    ∙ taken_any party_read test (code_taken c.args.code) refl (λ x xs. refl) (parties_are c.args.book.now) c.rows-rows.ensures
+    any_from_yields_List (λ row. test (party_read row)) _ _ _ c.any.ensures.ran (YieldsList-from_slice c.parties-rows.result.now c.iter.ensures.rest) (λ x b q k. (search rules, search (rules, tests)))
+    ∙ taken_any party_read test (code_taken c.args.code) refl (λ x xs. refl) (parties_are c.args.book.now) c.parties-rows.ensures

@@ -14,7 +14,7 @@ use Rattle.rights.proofs.standing.Goals as goal
 found : (c : After-position) → c.position.result ≡ standing_right c.args.book.now c.args.key
 unfolding is_right_of
 found c =
-    row_found c.args.book.now c.args.key c.rows-rows.ensures
+    row_found c.args.book.now c.args.key c.rights-rows.ensures
     (position_from_yields_List (λ row. is_right c.args.key (right_read row)) _ _ _ c.position.ensures.ran (YieldsList-from_slice _ c.iter.ensures.rest) (λ x b q k. (search rules, search (rules, tests))))
 
 pub returns-in_err-number : goal.returns-in_err-number

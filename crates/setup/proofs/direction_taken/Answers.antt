@@ -15,5 +15,5 @@ unfolding direction_taken clashes
 returns c =
     let new = c.args.direction in
     let test = clashes new.out new.into new.model in
-    any_from_yields_List (λ row. test (direction_read row)) _ _ _ c.any.ensures.ran (YieldsList-from_slice c.rows-rows.result.now c.iter.ensures.rest) (λ x b q k. (search rules, search (rules, tests)))
-    ∙ taken_any direction_read test (direction_taken new.out new.into new.model) refl (λ x xs. refl) (directions_are c.args.book.now) c.rows-rows.ensures
+    any_from_yields_List (λ row. test (direction_read row)) _ _ _ c.any.ensures.ran (YieldsList-from_slice c.directions-rows.result.now c.iter.ensures.rest) (λ x b q k. (search rules, search (rules, tests)))
+    ∙ taken_any direction_read test (direction_taken new.out new.into new.model) refl (λ x xs. refl) (directions_are c.args.book.now) c.directions-rows.ensures

@@ -14,7 +14,7 @@ loop-row-init c = rw c.new-list.ensures (none_passed _ _)
 pub push-requires : goal.push-requires
 push-requires c =
     let few = c.loop-row.invariant.few in
-    let most : length c.rows-row-items.result.now ≤ pair_limit = rw c.rows-row-items.ensures (few_rows c.args.book.now PAIRS 13 pair_limit) in
+    let most : length c.pairs-row-items.result.now ≤ pair_limit = rw c.pairs-row-items.ensures (few_rows c.args.book.now PAIRS 13 pair_limit) in
     (omega arith, omega arith)
 
 pub loop-row-preserved : goal.loop-row-preserved
@@ -24,4 +24,4 @@ loop-row-preserved c = elim c.if-row-right.branch [
 ]
 
 pub returns : goal.returns
-returns c = all_passed _ _ _ _ c.rows-row-items.ensures c.loop-row-test.false c.loop-row.auto.row-index-end c.loop-row.invariant
+returns c = all_passed _ _ _ _ c.pairs-row-items.ensures c.loop-row-test.false c.loop-row.auto.row-index-end c.loop-row.invariant
