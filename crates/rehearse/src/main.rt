@@ -11,7 +11,7 @@ use std::io::{Read, Write};
 
 // ---- output
 
-// Collects the parts of a line, so that it is written at once. Where there is no more room, what came before is written first.
+// Collects the parts of a line, so that it is written at once. Where a part has no room, what came before it is written first, and then the part.
 #[derive(Drop)]
 struct Collected<'a, W> {
     out: &'a mut W,
@@ -20,10 +20,16 @@ struct Collected<'a, W> {
 
 impl<W: Write> Write for Collected<'_, W> {
     fn write(&mut self, part: &[u8]) -> io::Result<usize> {
-        if self.text.is_full() {
-            self.flush()?;
+        self.write_all(part)?;
+        Ok(part.len())
+    }
+
+    fn write_all(&mut self, part: &[u8]) -> io::Result<()> {
+        if self.text.try_extend_from_slice(part).is_ok() {
+            return Ok(());
         }
-        self.text.write(part)
+        self.flush()?;
+        self.out.write_all(part)
     }
 
     // What can't be written is not kept.
